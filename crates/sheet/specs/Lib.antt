@@ -1,0 +1,4 @@
+pub mod Fields
+pub mod Borrowed
+pub mod Opening
+pub mod Progressing

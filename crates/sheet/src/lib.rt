@@ -1,0 +1,3 @@
+// Sheets: a module graph written as a run of tagged fields.
+pub mod field;
+mod names;
