@@ -1,3 +1,4 @@
 pub mod Reading
 pub mod Stepping
 pub mod Naming
+pub mod Refusing

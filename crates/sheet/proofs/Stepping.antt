@@ -8,8 +8,9 @@ use native.Mathlib.Omega.{arith}
 use lib.Dec.{ltb}
 use lib.ListN.{length}
 use Rattle.std.specs.declared.option.Option.the-variants.{Some, None}
+use Rattle.std.specs.declared.result.Result.{Result}
 use Rattle.std.specs.declared.result.Result.the-variants.{Ok, Err}
-use Rattle.std.proofs.shelf.Tests.{cond-true, cond-false, cases-lt, lt-ltb, le-ltb}
+use Rattle.std.proofs.shelf.Tests.{cond-true, cond-false, false≢true, lt-ltb, le-ltb}
 use Rattle.graph.specs.declared.fault.Layer.the-variants as layer
 use Rattle.graph.specs.declared.fault.Reason.{Reason}
 use Rattle.graph.specs.Graphs.{Graph}
@@ -18,6 +19,9 @@ use Rattle.graph.specs.Rules.{unless}
 use Rattle.sheet.specs.Fields.{next-at, field-at}
 use Rattle.sheet.specs.Opening.{Placed, fields-from, fields-at, latest, entry-refusal, field-refusal, with-field, sheet-fault, gathered}
 use Rattle.sheet.specs.Progressing.{Run}
+
+pub ok-not-err : {A B : Type 0} (r : Result A B) (x : A) (y : B) → r ≡ Ok x → r ≡ Err y → ⊥
+ok-not-err r x y p q = let never : true ≡ false = cc in false≢true (sym never)
 
 abbrev pub placed-at : List ℕ → ℕ → Placed
 placed-at bytes p = record { place = p; content = field-at bytes p }
@@ -67,3 +71,8 @@ run-more bytes p (x ∷ es) q e r h f = let same : x ≡ e = cc (r .0, f) in (es
 pub run-done : (bytes : List ℕ) (p : ℕ) (es : List Entry) (q : ℕ) → Run bytes p es q → q ≤ p → es ≡ []
 run-done bytes p [] q r h = refl
 run-done bytes p (e ∷ es) q r h = let k : next-at bytes p ≤ q = run-le bytes (next-at bytes p) es q (r .1) in absurd (omega arith)
+
+-- and that field is a record
+pub run-here : (bytes : List ℕ) (p : ℕ) (es : List Entry) (q : ℕ) → Run bytes p es q → p < q → (e : Entry) × (field-at bytes p ≡ Ok e)
+run-here bytes p [] q r h = absurd (omega arith)
+run-here bytes p (e ∷ es) q r h = (e, r .0)

@@ -70,14 +70,14 @@ abbrev pub gathered : Graph → List Placed → Result Graph Fault
 gathered g [] = Ok g
 gathered g (f ∷ fs) = unless (sheet-fault (field-refusal g (f .content)) (f .place)) (gathered (with-field g (f .content)) fs)
 
--- the last checks of a field, with the whole graph at hand
-abbrev pub field-aim : Graph → Result Entry Reason → Option Reason
-field-aim g (Err reason) = None
-field-aim g (Ok e) = aim-refusal g e
+-- the last checks of a field, with the whole graph at hand, and then those of the later ones
+abbrev pub field-aim : Graph → ℕ → Result Entry Reason → Option Fault → Option Fault
+field-aim g place (Err reason) later = None
+field-aim g place (Ok e) later = either-fault (sheet-fault (aim-refusal g e) place) later
 
 abbrev pub aims : Graph → List Placed → Option Fault
 aims g [] = None
-aims g (f ∷ fs) = either-fault (sheet-fault (field-aim g (f .content)) (f .place)) (aims g fs)
+aims g (f ∷ fs) = field-aim g (f .place) (f .content) (aims g fs)
 
 -- 10, before anything is read
 abbrev pub too-long : List ℕ → Option Fault

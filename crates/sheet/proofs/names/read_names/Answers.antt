@@ -14,6 +14,7 @@ use Rattle.graph.specs.Rules.{listed}
 use Rattle.sheet.specs.Fields.{field-at, fault-at}
 use Rattle.sheet.specs.Borrowed.{entry-of}
 use Rattle.sheet.proofs.Naming.{wrong-first, unread, first-refused, repeated-refused, limit-refused, name-passes, earlier-name, no-earlier, name-test, listed-on, listed-here}
+use Rattle.sheet.proofs.Stepping.{ok-not-err}
 use Rattle.sheet.proofs.names.read_names.Needs as need
 use Rattle.sheet.proofs.names.read_names.Needs.{else-names-test, then-names-test·in-Continue-read·in-rest, then-names-test·in-Continue-read·in-Name·else-is-wrong-first·then-loop-earlier-test·in-Continue-other·then-is-name}
 
@@ -31,8 +32,7 @@ returns-then-is-wrong-first c =
 pub returns-in-Break-other : need.returns-in-Break-other
 returns-in-Break-other c =
   let found = earlier-name _ _ _ _ (c .loop-earlier .inv .5) (c .loop-earlier-test .taken) in
-  let never : true ≡ false = cc (found .3, c .in-Break-other .ensures tt .0) in
-  absurd (false≢true (sym never))
+  absurd (ok-not-err _ _ _ (found .3) (c .in-Break-other .ensures tt .0))
 
 pub loop-earlier-again : need.loop-earlier-again
 loop-earlier-again c =
