@@ -19,11 +19,11 @@ some-told : {Y : Type 0} (b : Bool) (y : Y) (o : Option Y) → isSome (cond b (S
 some-told true y o = refl
 some-told false y o = refl
 
-or-last : (b : Bool) → (b || false) ≡ b
+pub or-last : (b : Bool) → (b || false) ≡ b
 or-last true = refl
 or-last false = refl
 
-or-assoc : (a b c : Bool) → (a || (b || c)) ≡ ((a || b) || c)
+pub or-assoc : (a b c : Bool) → (a || (b || c)) ≡ ((a || b) || c)
 or-assoc true b c = refl
 or-assoc false b c = refl
 

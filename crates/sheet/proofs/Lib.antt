@@ -2,3 +2,5 @@ pub mod Reading
 pub mod Stepping
 pub mod Naming
 pub mod Refusing
+pub mod Advancing
+pub mod Aiming

@@ -2,3 +2,4 @@ pub mod Fields
 pub mod Borrowed
 pub mod Opening
 pub mod Progressing
+pub mod Searching

@@ -16,6 +16,7 @@ use Rattle.graph.specs.declared.fault.Reason.the-variants.{OutOfOrder, OverLimi
 use Rattle.graph.specs.declared.records.Export.{Export}
 use Rattle.graph.specs.declared.records.Import.{Import}
 use Rattle.graph.specs.declared.records.Kind.{Kind}
+use Rattle.graph.specs.declared.records.Kind.the-variants as kind
 use Rattle.graph.specs.Graphs.{Graph, no-records}
 use Rattle.graph.specs.Entries.{Entry, a-name, a-module, a-star, an-import, an-export}
 use Rattle.graph.specs.Lookups.{kind-of}
@@ -133,3 +134,18 @@ Advanced s (a-module kind id) p t = Counts s t p (s .modules + 1) (s .stars) (s 
 Advanced s (a-star target) p t = Counts s t p (s .modules) (s .stars + 1) (s .imports) (s .exports) (s .own) (s .kinds)
 Advanced s (an-import symbol target wanted) p t = Counts s t p (s .modules) (s .stars) (s .imports + 1) (s .exports) (s .own) (s .kinds)
 Advanced s (an-export name symbol) p t = Counts s t p (s .modules) (s .stars) (s .imports) (s .exports + 1) (s .own) (s .kinds)
+
+-- why a star record is refused that aims at a module of this kind
+abbrev pub star-aim : Option Kind → Option Reason
+star-aim None = Some NoRecord
+star-aim (Some kind.Es) = None
+star-aim (Some kind.External) = Some WrongKind
+star-aim (Some kind.Empty) = None
+
+-- the last checks of a record, where the modules have these kinds
+abbrev pub aim-by : List Kind → Entry → Option Reason
+aim-by kinds (a-name bytes) = None
+aim-by kinds (a-module k id) = None
+aim-by kinds (a-star target) = star-aim (nth kinds target)
+aim-by kinds (an-import symbol target wanted) = cond (leb (length kinds) target) (Some NoRecord) None
+aim-by kinds (an-export name symbol) = None

@@ -1,7 +1,7 @@
 ghost use mathlib.Core.Path.{_≡_};
 ghost use mathlib.Core.Bool.{Bool};
 ghost use Prim.Native.Nat.{ℕ, _<_};
-ghost use mathlib.Core.List.{List};
+ghost use mathlib.Core.List.{List, map};
 ghost use lib.ListN.{length};
 ghost use Rattle.std.specs.Results.{Cases};
 ghost use Rattle.std.specs.Vec.{made};
@@ -11,15 +11,17 @@ ghost use Rattle.std.specs.declared.result.Result.the-variants.{Ok, Err};
 ghost use Rattle.graph.specs.Graphs.{Graph, no-records};
 ghost use Rattle.graph.specs.Entries.{Entry, a-name, grown};
 ghost use Rattle.graph.specs.Rules.{wants-unknown, is-es};
+ghost use Rattle.graph.specs.Lookups.{kind-of};
 ghost use Rattle.sheet.specs.Borrowed.{entry-of};
 ghost use Rattle.sheet.specs.Fields.{next-at};
-ghost use Rattle.sheet.specs.Opening.{latest, fields-at, gathered, entry-refusal};
-ghost use Rattle.sheet.specs.Progressing.{Run, Head, Standing, Counted, clash, clashes, owned-refusal, latest-is-es, Roomy, Advanced};
+ghost use Rattle.sheet.specs.Opening.{fields-at, gathered, entry-refusal, aims, opened};
+ghost use Rattle.sheet.specs.Progressing.{Run, Head, Standing, Counted, clash, clashes, owned-refusal, latest-is-es, Roomy, Advanced, aim-by};
 
 use super::field::Field;
 use super::field::read_field;
 use super::field::sheet_fault;
 use super::names::Names;
+use super::names::read_names;
 use super::progress::Progress;
 use graph::fault::Fault;
 use graph::fault::Reason;
@@ -157,4 +159,95 @@ impl Progress {
             Field::Export { .. } => self.exports += 1,
         }
     }
+
+    // Checks the field at `self.at`, and goes past it.
+    fn take(&mut self, bytes: &[u8]) -> Result<(), Fault>
+        ensures next { λ r. ⌜ ((g : Graph) → Standing (now (bytes .entry)) (now (self .entry)) g → now (self .entry) .at < length (now (bytes .entry)) → Cases r (λ _. (h : Graph) × Standing (now (bytes .entry)) (now (self .exit)) h) (λ f. gathered no-records (fields-at (now (bytes .entry)) 0) ≡ Err f)) ⌝ }
+        ensures moved { λ r. ⌜ made r (λ _. now (self .entry) .at < now (self .exit) .at) ⌝ }
+    {
+        let read = read_field(bytes, self.at)?;
+        if let Some(reason) = self.refusal(bytes, read.field) {
+            return Err(sheet_fault(reason, self.at));
+        }
+        self.add(read.field, read.next);
+        Ok(())
+    }
+
+    // Checks the fields from `self.at` on, one by one.
+    fn take_all(&mut self, bytes: &[u8]) -> Result<(), Fault>
+        requires { ⌜ ((g : Graph) × Standing (now bytes) (now self) g) ⌝ }
+        ensures { λ r. ⌜ Cases r (λ _. (g : Graph) × Counted (now (self .exit)) g × (gathered no-records (fields-at (now (bytes .entry)) 0) ≡ Ok g)) (λ f. gathered no-records (fields-at (now (bytes .entry)) 0) ≡ Err f) ⌝ }
+    {
+        while self.at < bytes.len() {
+            self.take(bytes)?;
+        }
+        Ok(())
+    }
+}
+
+// Checks the fields behind the names, one by one.
+fn check_records(bytes: &[u8], names: Names) -> Result<Progress, Fault>
+    requires { ⌜ Head (now bytes) (names .end) (names .count) ⌝ }
+    ensures { λ r. ⌜ Cases r (λ (s : Progress). (g : Graph) × Counted s g × (gathered no-records (fields-at (now (bytes .entry)) 0) ≡ Ok g)) (λ f. gathered no-records (fields-at (now (bytes .entry)) 0) ≡ Err f) ⌝ }
+{
+    let mut progress = Progress {
+        at: names.end,
+        names: names.count,
+        modules: 0,
+        stars: 0,
+        imports: 0,
+        exports: 0,
+        own: names.end,
+        kinds: [Kind::Es; 256],
+    };
+    progress.take_all(bytes)?;
+    Ok(progress)
+}
+
+// The last checks of a field, with the kinds of all modules at hand.
+fn aim_refusal(field: Field, kinds: &[Kind]) -> Option<Reason>
+    ensures { λ r. ⌜ r ≡ aim-by (now (kinds .entry)) (entry-of (field .entry)) ⌝ }
+{
+    match field {
+        Field::Star { target } => match kind_at(kinds, usize::from(target)) {
+            None => Some(Reason::NoRecord),
+            Some(Kind::External) => Some(Reason::WrongKind),
+            Some(Kind::Es) => None,
+            Some(Kind::Empty) => None,
+        },
+        Field::Import { target, .. } if usize::from(target) >= kinds.len() => Some(Reason::NoRecord),
+        _ => None,
+    }
+}
+
+// Checks module numbers and star targets, in field order.
+fn check_targets(bytes: &[u8], kinds: &[Kind]) -> Result<(), Fault>
+    ensures { λ r. ⌜ ((g : Graph) → now (kinds .entry) ≡ map kind-of (g .modules) → Cases r (λ _. aims g (fields-at (now (bytes .entry)) 0) ≡ None) (λ f. aims g (fields-at (now (bytes .entry)) 0) ≡ Some f)) ⌝ }
+{
+    let mut at = 0;
+    while at < bytes.len() {
+        let Ok(read) = read_field(bytes, at) else {
+            return Ok(());
+        };
+        if let Some(reason) = aim_refusal(read.field, kinds) {
+            return Err(sheet_fault(reason, at));
+        }
+        at = read.next;
+    }
+    Ok(())
+}
+
+// Checks a whole sheet: nothing, or its first fault.
+pub fn check(bytes: &[u8]) -> Result<(), Fault>
+    ensures { λ r. ⌜ Cases r (λ _. (g : Graph) × (opened (now (bytes .entry)) ≡ Ok g)) (λ f. opened (now (bytes .entry)) ≡ Err f) ⌝ }
+{
+    if bytes.len() > 60000 {
+        return Err(sheet_fault(Reason::BadLength, 60000));
+    }
+    let names = read_names(bytes)?;
+    let progress = check_records(bytes, names)?;
+    if progress.names == 0 {
+        return Err(sheet_fault(Reason::BadName, bytes.len()));
+    }
+    check_targets(bytes, &progress.kinds[0..progress.modules])
 }

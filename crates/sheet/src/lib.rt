@@ -1,5 +1,6 @@
 // Sheets: a module graph written as a run of tagged fields.
-pub mod field;
 mod checks;
+pub mod field;
 mod names;
 mod progress;
+mod search;

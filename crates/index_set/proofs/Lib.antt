@@ -1,0 +1,4 @@
+pub mod Fronts
+pub mod Held
+pub mod Apart
+pub mod Adding

@@ -1,0 +1,88 @@
+-- The records of a sheet with their owners, and those of one sort among them.
+use mathlib.Core.Bool.{Bool, true, false, _&&_}
+use mathlib.Core.List.{List, [], _∷_}
+use Prim.Native.Nat.{ℕ, _+_, _-_}
+use lib.Dec.{eqb}
+use Rattle.std.specs.declared.option.Option.{Option}
+use Rattle.std.specs.declared.option.Option.the-variants.{Some, None}
+use Rattle.std.specs.declared.result.Result.{Result}
+use Rattle.std.specs.declared.result.Result.the-variants.{Ok, Err}
+use Rattle.graph.specs.declared.fault.Reason.{Reason}
+use Rattle.graph.specs.declared.records.Kind.{Kind}
+use Rattle.graph.specs.declared.records.Import.{Import}
+use Rattle.graph.specs.declared.records.Export.{Export}
+use Rattle.graph.specs.Entries.{Entry, a-name, a-module, a-star, an-import, an-export}
+use Rattle.sheet.specs.declared.search.Sought.{Sought}
+use Rattle.sheet.specs.declared.search.Sought.the-variants as sought
+use Rattle.sheet.specs.Opening.{Placed, fields-at}
+
+-- a field's record, and then the later ones
+abbrev pub entry-then : Result Entry Reason → List Entry → List Entry
+entry-then (Ok e) later = e ∷ later
+entry-then (Err reason) later = []
+
+-- the records of fields that can be read
+abbrev pub entries-of : List Placed → List Entry
+entries-of [] = []
+entries-of (f ∷ fs) = entry-then (f .content) (entries-of fs)
+
+-- the records of a sheet, in its order
+abbrev pub entries : List ℕ → List Entry
+entries bytes = entries-of (fields-at bytes 0)
+
+-- a record with its owner, which means nothing on a name or a module
+pub record Owned : Type 0 where
+  pub owner : ℕ
+  pub entry : Entry
+
+-- the number of modules behind a record
+abbrev pub modules-after : ℕ → Entry → ℕ
+modules-after modules (a-name bytes) = modules
+modules-after modules (a-module kind id) = modules + 1
+modules-after modules (a-star target) = modules
+modules-after modules (an-import symbol target wanted) = modules
+modules-after modules (an-export name symbol) = modules
+
+-- the records with their owners, where so many modules stand before them
+abbrev pub owned : ℕ → List Entry → List Owned
+owned modules [] = []
+owned modules (e ∷ es) = record { owner = modules - 1; entry = e } ∷ owned (modules-after modules e) es
+
+abbrev pub is-name-entry : Entry → Bool
+is-name-entry (a-name bytes) = true
+is-name-entry (a-module kind id) = false
+is-name-entry (a-star target) = false
+is-name-entry (an-import symbol target wanted) = false
+is-name-entry (an-export name symbol) = false
+
+-- a module's kind
+abbrev pub entry-kind : Entry → Option Kind
+entry-kind (a-name bytes) = None
+entry-kind (a-module kind id) = Some kind
+entry-kind (a-star target) = None
+entry-kind (an-import symbol target wanted) = None
+entry-kind (an-export name symbol) = None
+
+-- a star record's target
+abbrev pub entry-target : Entry → Option ℕ
+entry-target (a-name bytes) = None
+entry-target (a-module kind id) = None
+entry-target (a-star target) = Some target
+entry-target (an-import symbol target wanted) = None
+entry-target (an-export name symbol) = None
+
+-- an import of this owner
+abbrev pub entry-import : ℕ → Entry → Option Import
+entry-import owner (a-name bytes) = None
+entry-import owner (a-module kind id) = None
+entry-import owner (a-star target) = None
+entry-import owner (an-import symbol target wanted) = Some (record { owner = owner; symbol = symbol; target = target; wanted = wanted })
+entry-import owner (an-export name symbol) = None
+
+-- an export of this owner
+abbrev pub entry-export : ℕ → Entry → Option Export
+entry-export owner (a-name bytes) = None
+entry-export owner (a-module kind id) = None
+entry-export owner (a-star target) = None
+entry-export owner (an-import symbol target wanted) = None
+entry-export owner (an-export name symbol) = Some (record { owner = owner; name = name; symbol = symbol })
