@@ -14,10 +14,10 @@ use super::records::Kind;
 pub trait ModuleSource {
     ghost graph: { Self → Graph };
 
-    law sound: { (s : Self) → Sound (graph s) };
-
+    // The number of modules. Here each implementation shows that its graph is sound.
     fn module_count(&self) -> usize
-        ensures { λ r. ⌜ r ≡ length (graph (now (self .entry)) .modules) ⌝ };
+        ensures value { λ r. ⌜ r ≡ length (graph (now (self .entry)) .modules) ⌝ }
+        ensures sound { λ _. ⌜ Sound (graph (now (self .entry))) ⌝ };
 
     fn import_count(&self) -> usize
         ensures { λ r. ⌜ r ≡ length (graph (now (self .entry)) .imports) ⌝ };

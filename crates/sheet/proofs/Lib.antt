@@ -4,3 +4,7 @@ pub mod Naming
 pub mod Refusing
 pub mod Advancing
 pub mod Aiming
+pub mod Scanning
+pub mod Choosing
+pub mod Answering
+pub mod Soundly

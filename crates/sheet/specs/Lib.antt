@@ -3,3 +3,4 @@ pub mod Borrowed
 pub mod Opening
 pub mod Progressing
 pub mod Searching
+pub mod Found

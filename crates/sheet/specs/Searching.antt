@@ -1,5 +1,5 @@
 -- The records of a sheet with their owners, and those of one sort among them.
-use mathlib.Core.Bool.{Bool, true, false, _&&_}
+use mathlib.Core.Bool.{Bool, _&&_}
 use mathlib.Core.List.{List, [], _∷_}
 use Prim.Native.Nat.{ℕ, _+_, _-_}
 use lib.Dec.{eqb}
@@ -7,6 +7,8 @@ use Rattle.std.specs.declared.option.Option.{Option}
 use Rattle.std.specs.declared.option.Option.the-variants.{Some, None}
 use Rattle.std.specs.declared.result.Result.{Result}
 use Rattle.std.specs.declared.result.Result.the-variants.{Ok, Err}
+use Rattle.std.specs.Options.{isSome}
+use Rattle.std.specs.shelf.Lists.{kept-by}
 use Rattle.graph.specs.declared.fault.Reason.{Reason}
 use Rattle.graph.specs.declared.records.Kind.{Kind}
 use Rattle.graph.specs.declared.records.Import.{Import}
@@ -15,6 +17,7 @@ use Rattle.graph.specs.Entries.{Entry, a-name, a-module, a-star, an-import, an-
 use Rattle.sheet.specs.declared.search.Sought.{Sought}
 use Rattle.sheet.specs.declared.search.Sought.the-variants as sought
 use Rattle.sheet.specs.Opening.{Placed, fields-at}
+use Rattle.sheet.specs.Progressing.{is-export, is-import}
 
 -- a field's record, and then the later ones
 abbrev pub entry-then : Result Entry Reason → List Entry → List Entry
@@ -48,13 +51,6 @@ abbrev pub owned : ℕ → List Entry → List Owned
 owned modules [] = []
 owned modules (e ∷ es) = record { owner = modules - 1; entry = e } ∷ owned (modules-after modules e) es
 
-abbrev pub is-name-entry : Entry → Bool
-is-name-entry (a-name bytes) = true
-is-name-entry (a-module kind id) = false
-is-name-entry (a-star target) = false
-is-name-entry (an-import symbol target wanted) = false
-is-name-entry (an-export name symbol) = false
-
 -- a module's kind
 abbrev pub entry-kind : Entry → Option Kind
 entry-kind (a-name bytes) = None
@@ -86,3 +82,19 @@ entry-export owner (a-module kind id) = None
 entry-export owner (a-star target) = None
 entry-export owner (an-import symbol target wanted) = None
 entry-export owner (an-export name symbol) = Some (record { owner = owner; name = name; symbol = symbol })
+
+-- a record is among those that are sought
+abbrev pub passes : Sought → ℕ → Entry → Bool
+passes sought.Modules owner e = isSome (entry-kind e)
+passes sought.Imports owner e = isSome (entry-import owner e)
+passes (sought.StarsOf m) owner e = eqb owner m && isSome (entry-target e)
+passes (sought.ExportsOf m) owner e = eqb owner m && isSome (entry-export owner e)
+passes (sought.ExportsNamed m n) owner e = eqb owner m && is-export n e
+passes (sought.ImportsBehind m s) owner e = eqb owner m && is-import s e
+
+abbrev pub found : Sought → Owned → Bool
+found s x = passes s (x .owner) (x .entry)
+
+-- the records that are sought from p on, where so many modules stand before them
+abbrev pub sought-from : List ℕ → Sought → ℕ → ℕ → List Owned
+sought-from bytes s modules p = kept-by (found s) (owned modules (entries-of (fields-at bytes p)))

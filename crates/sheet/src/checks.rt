@@ -237,8 +237,8 @@ fn check_targets(bytes: &[u8], kinds: &[Kind]) -> Result<(), Fault>
     Ok(())
 }
 
-// Checks a whole sheet: nothing, or its first fault.
-pub fn check(bytes: &[u8]) -> Result<(), Fault>
+// Opens a sheet: nothing stands in the way, or its first fault does.
+pub fn open(bytes: &[u8]) -> Result<(), Fault>
     ensures { λ r. ⌜ Cases r (λ _. (g : Graph) × (opened (now (bytes .entry)) ≡ Ok g)) (λ f. opened (now (bytes .entry)) ≡ Err f) ⌝ }
 {
     if bytes.len() > 60000 {

@@ -3,4 +3,9 @@ mod checks;
 pub mod field;
 mod names;
 mod progress;
+mod scan;
 mod search;
+pub mod sheets;
+pub mod source;
+
+pub use checks::open;

@@ -1,11 +1,10 @@
+use super::field::Field;
+
 // Which records of a sheet are looked for.
 #[derive(Clone, Copy)]
 pub enum Sought {
-    Names,
     Modules,
-    Stars,
     Imports,
-    Exports,
     // the star records of a module
     StarsOf(usize),
     // the exports of a module
@@ -14,4 +13,11 @@ pub enum Sought {
     ExportsNamed(usize, usize),
     // the imports of a module with a symbol
     ImportsBehind(usize, usize),
+}
+
+// A record that was found, and the module that owns it.
+#[derive(Clone, Copy)]
+pub struct Found<'a> {
+    pub owner: u16,
+    pub field: Field<'a>,
 }
