@@ -3,7 +3,6 @@ mod checks;
 pub mod field;
 mod names;
 mod progress;
-mod scan;
 mod search;
 pub mod sheets;
 pub mod source;
