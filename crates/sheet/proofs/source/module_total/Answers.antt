@@ -7,6 +7,4 @@ pub count-records-requires : need.count-records-requires
 count-records-requires c κs = sheet-short (c .args .bytes .now) (c .pre)
 
 pub returns : need.returns
-returns c = record
-  { value = c .count-records .ensures ∙ module-count (c .args .bytes .now) (c .pre)
-  ; sound = graph-sound (c .args .self .now .bytes .now) }
+returns c = record { value = c .count-records .ensures ∙ module-count (c .args .bytes .now) (c .pre); sound = graph-sound (c .args .bytes .now) }
