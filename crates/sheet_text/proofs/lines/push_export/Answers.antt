@@ -1,0 +1,6 @@
+use Rattle.std.specs.Of.String.{string-bytes}
+use Rattle.sheet_text.proofs.Appending.{behind}
+use Rattle.sheet_text.proofs.lines.push_export.Needs as need
+
+pub returns : need.returns
+returns c = behind (c .push-text .result) (string-bytes (c .args .out .now)) _ _ _ (c .in-Continue-push-heading .ensures tt) (c .push-text .ensures)

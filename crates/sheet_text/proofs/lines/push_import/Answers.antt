@@ -1,0 +1,10 @@
+use Rattle.std.specs.declared.result.Result.the-variants.{Ok}
+use Rattle.std.specs.Of.String.{string-bytes}
+use Rattle.sheet_text.proofs.Appending.{behind}
+use Rattle.sheet_text.proofs.lines.push_import.Needs as need
+
+pub returns : need.returns
+returns c =
+    behind (c .push-text .result) (string-bytes (c .args .out .now)) _ _ _
+    (behind {E = Unit {0}} (Ok tt) (string-bytes (c .args .out .now)) _ _ _ (c .in-Continue-push-heading .ensures tt) (c .in-Continue-push-wanted .ensures tt))
+    (c .push-text .ensures)

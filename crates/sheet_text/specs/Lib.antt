@@ -1,0 +1,4 @@
+pub mod Counting
+pub mod Escaping
+pub mod Lines
+pub mod Failing
