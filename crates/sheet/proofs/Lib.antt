@@ -4,7 +4,3 @@ pub mod Naming
 pub mod Refusing
 pub mod Advancing
 pub mod Aiming
-pub mod Scanning
-pub mod Choosing
-pub mod Answering
-pub mod Soundly

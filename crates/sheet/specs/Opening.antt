@@ -30,6 +30,20 @@ fields-from (suc steps) bytes p = cond (ltb p (length bytes)) (record { place = 
 abbrev pub fields-at : List ℕ → ℕ → List Placed
 fields-at bytes p = fields-from (length bytes) bytes p
 
+-- a field's record, and then the later ones
+abbrev pub entry-then : Result Entry Reason → List Entry → List Entry
+entry-then (Ok e) later = e ∷ later
+entry-then (Err reason) later = []
+
+-- the records of fields that can be read
+abbrev pub entries-of : List Placed → List Entry
+entries-of [] = []
+entries-of (f ∷ fs) = entry-then (f .content) (entries-of fs)
+
+-- the records of a sheet, in its order
+abbrev pub entries : List ℕ → List Entry
+entries bytes = entries-of (fields-at bytes 0)
+
 -- the latest module, which owns the records behind it
 abbrev pub latest : Graph → ℕ
 latest g = length (g .modules) - 1

@@ -3,8 +3,5 @@ mod checks;
 pub mod field;
 mod names;
 mod progress;
-mod search;
-pub mod sheets;
-pub mod source;
 
 pub use checks::open;

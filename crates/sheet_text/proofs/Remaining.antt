@@ -8,8 +8,7 @@ use Rattle.std.specs.declared.result.Result.the-variants.{Ok, Err}
 use Rattle.graph.specs.declared.fault.Reason.{Reason}
 use Rattle.graph.specs.Entries.{Entry, a-name, a-module, a-star, an-import, an-export}
 use Rattle.sheet.specs.Fields.{next-at, field-at}
-use Rattle.sheet.specs.Opening.{fields-at}
-use Rattle.sheet.specs.Searching.{entry-then, entries-of}
+use Rattle.sheet.specs.Opening.{fields-at, entry-then, entries-of}
 use Rattle.sheet.proofs.Stepping.{fields-more, fields-done}
 use Rattle.sheet_text.specs.declared.counts.Counts.{Counts}
 use Rattle.sheet_text.specs.Counting.{counts-after, total}

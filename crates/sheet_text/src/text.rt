@@ -4,7 +4,7 @@ ghost use Prim.Native.Nat.{_-_, _^_, _<_};
 ghost use Rattle.std.specs.Of.String.{string-bytes};
 ghost use Rattle.std.specs.Vec.{made};
 ghost use Rattle.sheet.specs.Borrowed.{entry-of};
-ghost use Rattle.sheet.specs.Searching.{entries};
+ghost use Rattle.sheet.specs.Opening.{entries};
 ghost use Rattle.sheet_text.specs.Counting.{no-counts, counts-after, counted, total};
 ghost use Rattle.sheet_text.specs.Lines.{lines, sheet-text};
 use super::counts::Counts;

@@ -1,7 +1,7 @@
 use mathlib.Core.Path.{_≡_}
 use Prim.Native.Nat.{_-_, _≤_}
 use lib.ListN.{length}
-use Rattle.sheet.specs.Searching.{entries}
+use Rattle.sheet.specs.Opening.{entries}
 use Rattle.sheet_text.specs.Counting.{no-counts, counted, total}
 use Rattle.sheet_text.proofs.Remaining.{remaining}
 use Rattle.sheet_text.proofs.text.count_records.Given as given

@@ -3,7 +3,7 @@ use mathlib.Core.List.{_++_}
 use Prim.Native.Nat.{_-_, _≤_}
 use lib.ListN.{length}
 use Rattle.std.specs.Of.String.{string-bytes}
-use Rattle.sheet.specs.Searching.{entries}
+use Rattle.sheet.specs.Opening.{entries}
 use Rattle.sheet_text.specs.Counting.{no-counts, total}
 use Rattle.sheet_text.specs.Lines.{lines}
 use Rattle.sheet_text.proofs.Remaining.{remaining}

@@ -1,0 +1,4 @@
+pub mod Choosing
+pub mod Scanning
+pub mod Soundly
+pub mod Answering

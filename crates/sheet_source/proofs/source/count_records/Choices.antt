@@ -1,0 +1,11 @@
+use mathlib.Core.Path.{_≡_}
+use Prim.Native.Nat.{_+_, _-_, _≤_}
+use lib.ListN.{length}
+use Rattle.sheet_source.specs.Searching.{sought-from}
+use Rattle.sheet_source.proofs.source.count_records.Given as given
+
+abbrev pub Inv-loop-at : given.InvT-loop-at
+Inv-loop-at l = (l .count + length (sought-from (l .bytes) (l .sought) (l .modules) (l .at)) ≡ length (sought-from (l .bytes) (l .sought) 0 0)) × (l .modules ≤ l .at) × (l .at ≤ length (l .bytes)) × (l .count ≤ l .at)
+
+abbrev pub μ-loop-at : given.MeasureT-loop-at
+μ-loop-at l = length (l .bytes) - l .at
