@@ -4,3 +4,4 @@ pub mod Naming
 pub mod Refusing
 pub mod Advancing
 pub mod Aiming
+pub mod Soundly

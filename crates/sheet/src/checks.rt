@@ -12,6 +12,7 @@ ghost use Rattle.graph.specs.Graphs.{Graph, no-records};
 ghost use Rattle.graph.specs.Entries.{Entry, a-name, grown};
 ghost use Rattle.graph.specs.Rules.{wants-unknown, is-es};
 ghost use Rattle.graph.specs.Lookups.{kind-of};
+ghost use Rattle.graph.specs.Soundness.{Sound};
 ghost use Rattle.sheet.specs.Borrowed.{entry-of};
 ghost use Rattle.sheet.specs.Fields.{next-at};
 ghost use Rattle.sheet.specs.Opening.{fields-at, gathered, entry-refusal, aims, opened};
@@ -239,7 +240,7 @@ fn check_targets(bytes: &[u8], kinds: &[Kind]) -> Result<(), Fault>
 
 // Opens a sheet: nothing stands in the way, or its first fault does.
 pub fn open(bytes: &[u8]) -> Result<(), Fault>
-    ensures { λ r. ⌜ Cases r (λ _. (g : Graph) × (opened (now (bytes .entry)) ≡ Ok g)) (λ f. opened (now (bytes .entry)) ≡ Err f) ⌝ }
+    ensures { λ r. ⌜ Cases r (λ _. (g : Graph) × (opened (now (bytes .entry)) ≡ Ok g) × Sound g) (λ f. opened (now (bytes .entry)) ≡ Err f) ⌝ }
 {
     if bytes.len() > 60000 {
         return Err(sheet_fault(Reason::BadLength, 60000));

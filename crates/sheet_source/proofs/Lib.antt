@@ -1,4 +1,3 @@
 pub mod Choosing
 pub mod Scanning
-pub mod Soundly
 pub mod Answering

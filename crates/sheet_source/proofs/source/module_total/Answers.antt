@@ -1,6 +1,6 @@
 use mathlib.Core.Path.{_∙_}
 use Rattle.sheet_source.proofs.Answering.{sheet-short, module-count}
-use Rattle.sheet_source.proofs.Soundly.{graph-sound}
+use Rattle.sheet.proofs.Soundly.{graph-sound}
 use Rattle.sheet_source.proofs.source.module_total.Needs as need
 
 pub count-records-requires : need.count-records-requires

@@ -25,8 +25,8 @@ use Rattle.graph.specs.Entries.{Entry, a-name, a-module, a-star, an-import, an-
 use Rattle.graph.specs.Rules.{name-sized, id-sized, kind-numbered, misnamed, over-limit, unknown-name, given-twice, wrong-owner, aim-refusal, unless, and-then}
 use Rattle.graph.specs.Soundness.{Es-module, Sized, Sound}
 use Rattle.graph.proofs.Pushing.{cond-none, either-none, unless-ok, sized-told, kind-inside, So-far, Formed, Behind, nothing-so-far, so-far-push, so-far-sound, default-sound}
 use Rattle.sheet.specs.Fields.{next-at, payload-at, field-at, content, as-name, of-kind, as-module}
-use Rattle.sheet.specs.Opening.{Placed, fields-from, fields-at, latest, misplaced, entry-refusal, field-refusal, with-field, gathered, field-aim, aims, too-long, no-name, finished, or-only-default, graph-of}
+use Rattle.sheet.specs.Opening.{Placed, fields-from, fields-at, latest, misplaced, entry-refusal, field-refusal, with-field, gathered, field-aim, aims, too-long, no-name, finished, opened, or-only-default, graph-of}
 
 -- the name or the id of a field, where it has one, has the right size
 abbrev Formed-field : Result Entry Reason → Type 0
@@ -125,3 +125,7 @@ graph-sound bytes =
   where
     some-name : (n : ℕ) → eqb n 0 ≡ false → 0 < n
     some-name n h = grind (arith, tells)
+
+-- so is every graph that opens
+pub opened-sound : (bytes : List ℕ) (g : Graph) → opened bytes ≡ Ok g → Sound g
+opened-sound bytes g e = subst (λ r. Sound (or-only-default r)) e (graph-sound bytes)
