@@ -21,3 +21,20 @@ pub fn show(heap: Global, bytes: &[u8]) -> Result<String, Failure>
     let text = sheet_text(heap, bytes)?;
     Ok(text)
 }
+
+#[cfg(test)]
+mod tests {
+    use super::*;
+    use graph::fault::FaultDisplay;
+    use std::test::*;
+
+    #[test]
+    fn a_refusal_comes_up_unchanged(rt: LibcRuntime) -> Result<(), Fail> {
+        let heap = rt.alloc();
+        let Err(Failure::Refused(fault)) = show(heap, b"\x01\x00\x07default\x06\x00\x00") else {
+            return Err(Fail::new("not refused"));
+        };
+        let text = fault.to_string(heap)?;
+        check_eq(text.as_str(), "refused 11 at 10 in sheet")
+    }
+}
