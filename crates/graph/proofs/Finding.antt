@@ -32,12 +32,12 @@ module _ {X Y : Type 0} (F : List X → Option Y) (test : X → Bool) (f : X →
   pub found-push : (xs : List X) (x : X) → isSome (F (xs ++ (x ∷ []))) ≡ (isSome (F xs) || test x)
   found-push [] x = ap isSome (step x []) ∙ some-told (test x) (f x) (F []) ∙ ap (λ o. test x || isSome o) none ∙ or-last (test x) ∙ sym (ap (λ o. isSome o || test x) none)
   found-push (y ∷ ys) x =
-    ap isSome (step y (ys ++ (x ∷ [])))
-    ∙ some-told (test y) (f y) (F (ys ++ (x ∷ [])))
-    ∙ ap (λ b. test y || b) (found-push ys x)
-    ∙ or-assoc (test y) (isSome (F ys)) (test x)
-    ∙ sym (ap (λ b. b || test x) (some-told (test y) (f y) (F ys)))
-    ∙ sym (ap (λ o. isSome o || test x) (step y ys))
+      ap isSome (step y (ys ++ (x ∷ [])))
+      ∙ some-told (test y) (f y) (F (ys ++ (x ∷ [])))
+      ∙ ap (λ b. test y || b) (found-push ys x)
+      ∙ or-assoc (test y) (isSome (F ys)) (test x)
+      ∙ sym (ap (λ b. b || test x) (some-told (test y) (f y) (F ys)))
+      ∙ sym (ap (λ o. isSome o || test x) (step y ys))
 
   pub found-none : (xs : List X) → All (λ x. test x ≡ false) xs → F xs ≡ None
   found-none [] all = none
@@ -46,13 +46,13 @@ module _ {X Y : Type 0} (F : List X → Option Y) (test : X → Bool) (f : X →
 -- behind the exports of m, an export of m more
 pub symbol-push : (es : List Export) (m n name symbol : ℕ) → isSome (symbol-in (es ++ (record { owner = m; name = name; symbol = symbol } ∷ [])) m n) ≡ (isSome (symbol-in es m n) || eqb name n)
 symbol-push es m n name symbol =
-  found-push (λ l. symbol-in l m n) (λ (e : Export). eqb (e .owner) m && eqb (e .name) n) (λ (e : Export). e .symbol) refl (λ _ _. refl) es (record { owner = m; name = name; symbol = symbol })
-  ∙ ap (λ b. isSome (symbol-in es m n) || (b && eqb name n)) (eq-eqb m m refl)
+    found-push (λ l. symbol-in l m n) (λ (e : Export). eqb (e .owner) m && eqb (e .name) n) (λ (e : Export). e .symbol) refl (λ _ _. refl) es (record { owner = m; name = name; symbol = symbol })
+    ∙ ap (λ b. isSome (symbol-in es m n) || (b && eqb name n)) (eq-eqb m m refl)
 
 pub import-push : (is : List Import) (m s : ℕ) (i : Import) → i .owner ≡ m → isSome (import-in (is ++ (i ∷ [])) m s) ≡ (isSome (import-in is m s) || eqb (i .symbol) s)
 import-push is m s i e =
-  found-push (λ l. import-in l m s) (λ (x : Import). eqb (x .owner) m && eqb (x .symbol) s) (λ x. x) refl (λ _ _. refl) is i
-  ∙ ap (λ b. isSome (import-in is m s) || (b && eqb (i .symbol) s)) (eq-eqb (i .owner) m e)
+    found-push (λ l. import-in l m s) (λ (x : Import). eqb (x .owner) m && eqb (x .symbol) s) (λ x. x) refl (λ _ _. refl) is i
+    ∙ ap (λ b. isSome (import-in is m s) || (b && eqb (i .symbol) s)) (eq-eqb (i .owner) m e)
 
 -- a module behind all owners has none of them
 pub symbol-none : (es : List Export) (m n : ℕ) → All (λ (e : Export). e .owner < m) es → symbol-in es m n ≡ None

@@ -91,9 +91,9 @@ es-told None h = cc
 
 star-aimed : (whole : Graph) (target : ℕ) → aim-refusal whole (a-star target) ≡ None → Not-external whole target
 star-aimed whole target aimed =
-  let there = cond-none (leb (length (whole .modules)) target) _ _ aimed in
-  let other = cond-none (is-external (kind-in (whole .modules) target)) _ _ (there .1) in
-  (leb-false _ _ (there .0), λ e. both-ways _ (other .0) (ap is-external e))
+    let there = cond-none (leb (length (whole .modules)) target) _ _ aimed in
+    let other = cond-none (is-external (kind-in (whole .modules) target)) _ _ (there .1) in
+    (leb-false _ _ (there .0), λ e. both-ways _ (other .0) (ap is-external e))
 
 known-told : (g : Graph) (w : Wanted) → wants-unknown (length (g .names)) w ≡ false → Known g w
 known-told g (Name n) h = leb-false (length (g .names)) n h
@@ -111,10 +111,11 @@ pub record Listing {X : Type 0} (most : ℕ) (Fine : X → Type 0) (Follows : X 
 
 module _ {X : Type 0} {most : ℕ} {Fine : X → Type 0} {Follows : X → X → Type 0} {xs : List X} (listing : Listing most Fine Follows xs) where
   listing-push : (x : X) → leb most (length xs) ≡ false → Fine x → All (λ y. Follows y x) xs → Listing most Fine Follows (xs ++ (x ∷ []))
-  listing-push x room fine behind = record
-    { limit = omega (arith, length-push xs x, leb-false most (length xs) room)
-    ; each = all-push Fine xs x (listing .each) fine
-    ; pairs = pairwise-push Follows xs x (listing .pairs) behind }
+  listing-push x room fine behind = record {
+    limit = omega (arith, length-push xs x, leb-false most (length xs) room);
+    each = all-push Fine xs x (listing .each) fine;
+    pairs = pairwise-push Follows xs x (listing .pairs) behind;
+  }
 
   listing-weaker : (Fine′ : X → Type 0) → ((x : X) → Fine x → Fine′ x) → Listing most Fine′ Follows xs
   listing-weaker Fine′ f = record { limit = listing .limit; each = all-weaker Fine Fine′ f xs (listing .each); pairs = listing .pairs }
@@ -203,74 +204,81 @@ none-found : {X Y : Type 0} (F : List X → Option Y) (owner number : X → ℕ)
 none-found F owner number value m n step xs h = all-by-steps (λ ys. F ys ≡ None) (λ y. owner y ≡ m → number y ≡ n → ⊥) (λ y ys none. let parts = cond-none _ (value y) (F ys) (sym (step y ys) ∙ none) in (differs (owner y) m (number y) n (parts .0), parts .1)) xs (none-is (F xs) h)
 
 pub so-far-push : (whole g : Graph) (owner : ℕ) (e : Entry) → So-far whole g → Passes whole g owner e → So-far whole (grown g owner e)
-so-far-push whole g owner (a-name bytes) so passes = record
-  { names = listing-push (so .names) bytes (passes .room) (passes .formed) (new-name (g .names) bytes (passes .well-named))
-  ; begins = begins-push (g .names) bytes (passes .well-named) (so .begins)
-  ; modules = so .modules
-  ; stars = so .stars
-  ; imports = listing-weaker (so .imports) _ (λ i fits. (fits .0, fits .1, known-wider g (grown g owner (a-name bytes)) (omega (arith, longer)) (i .wanted) (fits .2)))
-  ; exports = listing-weaker (so .exports) _ (λ e fits. (fits .0, omega (arith, longer, fits .1))) }
+so-far-push whole g owner (a-name bytes) so passes = record {
+  names = listing-push (so .names) bytes (passes .room) (passes .formed) (new-name (g .names) bytes (passes .well-named));
+  begins = begins-push (g .names) bytes (passes .well-named) (so .begins);
+  modules = so .modules;
+  stars = so .stars;
+  imports = listing-weaker (so .imports) _ (λ i fits. (fits .0, fits .1, known-wider g (grown g owner (a-name bytes)) (omega (arith, longer)) (i .wanted) (fits .2)));
+  exports = listing-weaker (so .exports) _ (λ e fits. (fits .0, omega (arith, longer, fits .1)));
+}
   where
     longer : length (g .names ++ (bytes ∷ [])) ≡ length (g .names) + 1
     longer = length-push (g .names) bytes
-so-far-push whole g owner (a-module k id) so passes = record
-  { names = so .names
-  ; begins = so .begins
-  ; modules = listing-push (so .modules) m (passes .room) (passes .formed) (all-weaker _ _ (λ _ _. tt) (g .modules) (so .modules .each))
-  ; stars = listing-weaker (so .stars) _ (λ s fits. (still (s .owner) (fits .0), fits .1))
-  ; imports = listing-weaker (so .imports) _ (λ i fits. (still (i .owner) (fits .0), fits .1, fits .2))
-  ; exports = listing-weaker (so .exports) _ (λ e fits. (still (e .owner) (fits .0), fits .1)) }
+so-far-push whole g owner (a-module k id) so passes = record {
+  names = so .names;
+  begins = so .begins;
+  modules = listing-push (so .modules) m (passes .room) (passes .formed) (all-weaker _ _ (λ _ _. tt) (g .modules) (so .modules .each));
+  stars = listing-weaker (so .stars) _ (λ s fits. (still (s .owner) (fits .0), fits .1));
+  imports = listing-weaker (so .imports) _ (λ i fits. (still (i .owner) (fits .0), fits .1, fits .2));
+  exports = listing-weaker (so .exports) _ (λ e fits. (still (e .owner) (fits .0), fits .1));
+}
   where
     m : Module
     m = record { kind = k; id = id }
+
     still : (n : ℕ) → kind-in (g .modules) n ≡ Some kind.Es → kind-in (g .modules ++ (m ∷ [])) n ≡ Some kind.Es
     still n h = kind-push (g .modules) m n kind.Es h
-so-far-push whole g owner (a-star target) so passes = record
-  { names = so .names
-  ; begins = so .begins
-  ; modules = so .modules
-  ; stars = listing-push (so .stars) _ (passes .room) (es-told _ (passes .owned), star-aimed whole target (passes .aimed)) (passes .behind)
-  ; imports = so .imports
-  ; exports = so .exports }
-so-far-push whole g owner (an-import symbol target wanted) so passes = record
-  { names = so .names
-  ; begins = so .begins
-  ; modules = so .modules
-  ; stars = so .stars
-  ; imports = listing-push (so .imports) _ (passes .room) (es-told _ (passes .owned), leb-false _ _ (cond-none (leb (length (whole .modules)) target) _ _ (passes .aimed) .0), known-told g wanted (passes .known)) (all-both _ _ (g .imports) (passes .behind) (none-found (λ is. import-in is owner symbol) (λ (i : Import). i .owner) (λ (i : Import). i .symbol) (λ i. i) owner symbol (λ _ _. refl) (g .imports) (passes .once)))
-  ; exports = so .exports }
-so-far-push whole g owner (an-export name symbol) so passes = record
-  { names = so .names
-  ; begins = so .begins
-  ; modules = so .modules
-  ; stars = so .stars
-  ; imports = so .imports
-  ; exports = listing-push (so .exports) _ (passes .room) (es-told _ (passes .owned), leb-false _ _ (passes .known)) (all-both _ _ (g .exports) (passes .behind) (none-found (λ es. symbol-in es owner name) (λ (e : Export). e .owner) (λ (e : Export). e .name) (λ (e : Export). e .symbol) owner name (λ _ _. refl) (g .exports) (passes .once))) }
+so-far-push whole g owner (a-star target) so passes = record {
+  names = so .names;
+  begins = so .begins;
+  modules = so .modules;
+  stars = listing-push (so .stars) _ (passes .room) (es-told _ (passes .owned), star-aimed whole target (passes .aimed)) (passes .behind);
+  imports = so .imports;
+  exports = so .exports;
+}
+so-far-push whole g owner (an-import symbol target wanted) so passes = record {
+  names = so .names;
+  begins = so .begins;
+  modules = so .modules;
+  stars = so .stars;
+  imports = listing-push (so .imports) _ (passes .room) (es-told _ (passes .owned), leb-false _ _ (cond-none (leb (length (whole .modules)) target) _ _ (passes .aimed) .0), known-told g wanted (passes .known)) (all-both _ _ (g .imports) (passes .behind) (none-found (λ is. import-in is owner symbol) (λ (i : Import). i .owner) (λ (i : Import). i .symbol) (λ i. i) owner symbol (λ _ _. refl) (g .imports) (passes .once)));
+  exports = so .exports;
+}
+so-far-push whole g owner (an-export name symbol) so passes = record {
+  names = so .names;
+  begins = so .begins;
+  modules = so .modules;
+  stars = so .stars;
+  imports = so .imports;
+  exports = listing-push (so .exports) _ (passes .room) (es-told _ (passes .owned), leb-false _ _ (passes .known)) (all-both _ _ (g .exports) (passes .behind) (none-found (λ es. symbol-in es owner name) (λ (e : Export). e .owner) (λ (e : Export). e .name) (λ (e : Export). e .symbol) owner name (λ _ _. refl) (g .exports) (passes .once)));
+}
 
 -- a whole graph with a name
 pub so-far-sound : (g : Graph) → So-far g g → 0 < length (g .names) → Sound g
-so-far-sound g so some = record
-  { name-sizes = so .names .each
-  ; id-sizes = so .modules .each
-  ; name-limit = so .names .limit
-  ; module-limit = so .modules .limit
-  ; star-limit = so .stars .limit
-  ; import-limit = so .imports .limit
-  ; export-limit = so .exports .limit
-  ; first-name = first-is (g .names) some (so .begins)
-  ; names-differ = so .names .pairs
-  ; stars-rise = so .stars .pairs
-  ; imports-rise = pairwise-weaker _ _ (λ _ _ follows. follows .0) (g .imports) (so .imports .pairs)
-  ; exports-rise = pairwise-weaker _ _ (λ _ _ follows. follows .0) (g .exports) (so .exports .pairs)
-  ; star-owners = all-weaker _ _ (λ _ fits. fits .0) (g .stars) (so .stars .each)
-  ; import-owners = all-weaker _ _ (λ _ fits. fits .0) (g .imports) (so .imports .each)
-  ; export-owners = all-weaker _ _ (λ _ fits. fits .0) (g .exports) (so .exports .each)
-  ; star-targets = all-weaker _ _ (λ _ fits. fits .1) (g .stars) (so .stars .each)
-  ; import-targets = all-weaker _ _ (λ _ fits. fits .1) (g .imports) (so .imports .each)
-  ; import-names = all-weaker _ _ (λ _ fits. fits .2) (g .imports) (so .imports .each)
-  ; export-names = all-weaker _ _ (λ _ fits. fits .1) (g .exports) (so .exports .each)
-  ; exports-differ = pairwise-weaker _ _ (λ _ _ follows. follows .1) (g .exports) (so .exports .pairs)
-  ; imports-differ = pairwise-weaker _ _ (λ _ _ follows. follows .1) (g .imports) (so .imports .pairs) }
+so-far-sound g so some = record {
+  name-sizes = so .names .each;
+  id-sizes = so .modules .each;
+  name-limit = so .names .limit;
+  module-limit = so .modules .limit;
+  star-limit = so .stars .limit;
+  import-limit = so .imports .limit;
+  export-limit = so .exports .limit;
+  first-name = first-is (g .names) some (so .begins);
+  names-differ = so .names .pairs;
+  stars-rise = so .stars .pairs;
+  imports-rise = pairwise-weaker _ _ (λ _ _ follows. follows .0) (g .imports) (so .imports .pairs);
+  exports-rise = pairwise-weaker _ _ (λ _ _ follows. follows .0) (g .exports) (so .exports .pairs);
+  star-owners = all-weaker _ _ (λ _ fits. fits .0) (g .stars) (so .stars .each);
+  import-owners = all-weaker _ _ (λ _ fits. fits .0) (g .imports) (so .imports .each);
+  export-owners = all-weaker _ _ (λ _ fits. fits .0) (g .exports) (so .exports .each);
+  star-targets = all-weaker _ _ (λ _ fits. fits .1) (g .stars) (so .stars .each);
+  import-targets = all-weaker _ _ (λ _ fits. fits .1) (g .imports) (so .imports .each);
+  import-names = all-weaker _ _ (λ _ fits. fits .2) (g .imports) (so .imports .each);
+  export-names = all-weaker _ _ (λ _ fits. fits .1) (g .exports) (so .exports .each);
+  exports-differ = pairwise-weaker _ _ (λ _ _ follows. follows .1) (g .exports) (so .exports .pairs);
+  imports-differ = pairwise-weaker _ _ (λ _ _ follows. follows .1) (g .imports) (so .imports .pairs);
+}
   where
     first-is : (names : List (List ℕ)) → 0 < length names → Begins names → nth names 0 ≡ Some default-name
     first-is [] none begins = absurd (omega arith)

@@ -1,5 +1,5 @@
 -- The questions that a graph answers.
-use mathlib.Core.Bool.{Bool, true, false, cond, _&&_}
+use mathlib.Core.Bool.{cond, _&&_}
 use mathlib.Core.List.{List, [], _∷_}
 use Prim.Native.Nat.{ℕ}
 use lib.Dec.{eqb}
@@ -11,7 +11,7 @@ use Rattle.graph.specs.declared.records.Kind.{Kind}
 use Rattle.graph.specs.declared.records.Star.{Star}
 use Rattle.graph.specs.declared.records.Import.{Import}
 use Rattle.graph.specs.declared.records.Export.{Export}
-use Rattle.graph.specs.Graphs.{Graph, Module}
+use Rattle.graph.specs.Graphs.{Module}
 
 abbrev pub kind-of : Module → Kind
 kind-of m = m .kind

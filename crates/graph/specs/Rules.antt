@@ -1,9 +1,9 @@
 -- The rules behind the refusals that sheets and tables share: each number's case is a test over the graph so far,
 -- the record's owner and the record.
 use mathlib.Core.Bool.{Bool, true, false, cond, not, _&&_, _||_}
-use mathlib.Core.List.{List, [], _∷_}
-use Prim.Native.Nat.{ℕ}
-use lib.Dec.{eqb, leb, ltb}
+use mathlib.Core.List.{List, [], _∷_, List·Memᴰ}
+use Prim.Native.Nat.{ℕ, _≤_}
+use lib.Dec.{eqb, leb}
 use lib.ListN.{length}
 use Rattle.std.specs.declared.option.Option.{Option}
 use Rattle.std.specs.declared.option.Option.the-variants.{Some, None}
@@ -19,6 +19,7 @@ use Rattle.graph.specs.declared.fault.Fault.{Fault}
 use Rattle.graph.specs.declared.fault.Layer.{Layer}
 use Rattle.graph.specs.declared.fault.Reason.{Reason}
 use Rattle.graph.specs.declared.fault.Reason.the-variants.{NoRecord, WrongKind}
+use Rattle.graph.specs.Faults.{reason-number}
 use Rattle.graph.specs.Graphs.{Graph, default-name}
 use Rattle.graph.specs.Lookups.{kind-in, symbol-in, import-in}
 use Rattle.graph.specs.Entries.{Entry, a-name, a-module, a-star, an-import, an-export}
@@ -143,9 +144,24 @@ abbrev pub first-given : List Case → Option Reason
 first-given [] = None
 first-given (c ∷ cs) = cond (c .given) (Some (c .reason)) (first-given cs)
 
+-- the case of r is one of cs, and given
+abbrev pub Given : List Case → Reason → Type 0
+Given cs r = List·Memᴰ (record { given = true; reason = r }) cs
+
+-- r has the smallest number of those whose case is given
+pub record Smallest (cs : List Case) (r : Reason) : Type 0 where
+  pub there : Given cs r
+  pub least : (s : Reason) → Given cs s → reason-number r ≤ reason-number s
+
 -- the last checks of one record, the smaller number first
+abbrev pub aim-cases : Graph → Entry → List Case
+aim-cases g e =
+    record { given = unknown-target g e; reason = NoRecord }
+    ∷ record { given = external-target g e; reason = WrongKind }
+    ∷ []
+
 abbrev pub aim-refusal : Graph → Entry → Option Reason
-aim-refusal g e = first-given (record { given = unknown-target g e; reason = NoRecord } ∷ record { given = external-target g e; reason = WrongKind } ∷ [])
+aim-refusal g e = first-given (aim-cases g e)
 
 -- a refusal, if there is one, as a fault at its place
 abbrev pub placed : Layer → Option Reason → ℕ → Option Fault

@@ -1,7 +1,6 @@
 ghost use mathlib.Core.Path.{_≡_};
 ghost use Rattle.std.specs.declared.option.Option.the-variants.{Some};
 ghost use Rattle.graph.specs.Faults.{reason-number, layer-name, fault-text};
-
 use std::fmt;
 
 // Why a sheet or tables are refused.

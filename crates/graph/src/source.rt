@@ -4,7 +4,6 @@ ghost use Rattle.std.specs.Finite.{nth};
 ghost use Rattle.graph.specs.Graphs.{Graph};
 ghost use Rattle.graph.specs.Lookups.{kind-in, targets-in, exports-in, symbol-in, import-in};
 ghost use Rattle.graph.specs.Soundness.{Sound};
-
 use super::records::Export;
 use super::records::Import;
 use super::records::Kind;

@@ -1,19 +1,17 @@
 -- The last checks: module numbers and star targets.
 use mathlib.Core.Path.{_≡_, refl, sym, _∙_, ap}
-use mathlib.Core.Bool.{Bool, true, false, cond}
+use mathlib.Core.Bool.{cond}
 use mathlib.Core.List.{List, [], _∷_, map}
 use Prim.Native.Nat.{ℕ, zero, suc, _<_, _≤_}
 use native.Mathlib.Omega.{arith}
 use lib.Dec.{leb}
 use lib.ListN.{length}
-use Rattle.std.specs.declared.option.Option.{Option}
 use Rattle.std.specs.declared.option.Option.the-variants.{Some, None}
 use Rattle.std.specs.declared.result.Result.the-variants.{Ok, Err}
 use Rattle.std.specs.Finite.{nth}
 use Rattle.std.proofs.shelf.Lists.{length-map}
 use Rattle.std.proofs.shelf.Tests.{le-leb, lt-leb}
 use Rattle.std.proofs.shelf.Ways.{tells}
-use Rattle.graph.specs.declared.fault.Fault.{Fault}
 use Rattle.graph.specs.declared.fault.Reason.{Reason}
 use Rattle.graph.specs.declared.fault.Reason.the-variants.{NoRecord, WrongKind}
 use Rattle.graph.specs.declared.records.Kind.{Kind}
@@ -54,9 +52,9 @@ module _ (bytes : List ℕ) (p : ℕ) (g : Graph) (inside : p < length bytes) wh
   module _ (e : Entry) (read : field-at bytes p ≡ Ok e) (kinds : List Kind) (are : kinds ≡ map kind-of (g .modules)) where
     aims-here : aims g (fields-at bytes p) ≡ either-fault (sheet-fault (aim-by kinds e) p) (aims g (fields-at bytes (next-at bytes p)))
     aims-here =
-      ap (aims g) (fields-more bytes p inside)
-      ∙ ap (λ c. field-aim g p c (aims g (fields-at bytes (next-at bytes p)))) read
-      ∙ sym (ap (λ r. either-fault (sheet-fault r p) (aims g (fields-at bytes (next-at bytes p)))) (ap (λ ks. aim-by ks e) are ∙ aim-same g e))
+        ap (aims g) (fields-more bytes p inside)
+        ∙ ap (λ c. field-aim g p c (aims g (fields-at bytes (next-at bytes p)))) read
+        ∙ sym (ap (λ r. either-fault (sheet-fault r p) (aims g (fields-at bytes (next-at bytes p)))) (ap (λ ks. aim-by ks e) are ∙ aim-same g e))
 
     pub aims-stop : (reason : Reason) → Some reason ≡ aim-by kinds e → aims g (fields-at bytes p) ≡ Some (fault-at reason p)
     aims-stop reason h = aims-here ∙ sym (ap (λ r. either-fault (sheet-fault r p) (aims g (fields-at bytes (next-at bytes p)))) h)

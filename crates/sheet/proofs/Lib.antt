@@ -5,3 +5,4 @@ pub mod Refusing
 pub mod Advancing
 pub mod Aiming
 pub mod Soundly
+pub mod Firstly

@@ -1,13 +1,13 @@
 -- The names at the head of a sheet.
 use mathlib.Core.Path.{_≡_, refl, sym, _∙_, ap}
-use mathlib.Core.Bool.{Bool, true, false, cond, not, _&&_, _||_}
+use mathlib.Core.Bool.{Bool, true, false, not, _&&_, _||_}
 use mathlib.Core.List.{List, [], _∷_, _++_, map}
 use Prim.Native.Nat.{ℕ, _+_, _≤_, _<_}
 use native.Mathlib.Omega.{arith}
 use denote.Ref.{now}
-use lib.Dec.{eqb, leb}
+use lib.Dec.{eqb}
 use lib.ListN.{length}
-use Rattle.std.specs.declared.option.Option.the-variants.{Some, None}
+use Rattle.std.specs.declared.option.Option.the-variants.{Some}
 use Rattle.std.specs.declared.result.Result.the-variants.{Ok, Err}
 use Rattle.std.specs.shelf.Text.{sameBytes}
 use Rattle.std.proofs.shelf.Lists.{map-push}
@@ -15,7 +15,7 @@ use Rattle.std.proofs.shelf.Tests.{cond-true, cond-false, false≢true, and-par
 use Rattle.graph.specs.declared.fault.Reason.{Reason}
 use Rattle.graph.specs.declared.fault.Reason.the-variants.{BadName, OverLimit}
 use Rattle.graph.specs.Graphs.{no-records, default-name}
-use Rattle.graph.specs.Entries.{Entry, a-name}
+use Rattle.graph.specs.Entries.{a-name}
 use Rattle.graph.specs.Rules.{listed, wrong-name}
 use Rattle.sheet.specs.Fields.{next-at, field-at, fault-at}
 use Rattle.sheet.specs.Borrowed.{entry-of, is-name}
@@ -65,9 +65,10 @@ module _ {bytes : List ℕ} {p : ℕ} {names : List (List ℕ)} (headed : Headed
     limit-refused h k l = refused-name OverLimit (cond-false _ _ _ (not-wrong names name h k) ∙ cond-true _ _ _ (le-leb _ _ l))
 
     pub name-passes : wrong-first names name ≡ false → listed name names ≡ false → length names < 1024 → Headed bytes (next-at bytes p) (names ++ (name ∷ []))
-    name-passes h k l = record
-      { run = rw (map-push (λ n. a-name n) names name) (run-push bytes 0 (map (λ n. a-name n) names) p (a-name name) (headed .run) read)
-      ; on = sym (gathered-more bytes p (named names) (a-name name) inside read (cond-false _ _ _ (not-wrong names name h k) ∙ cond-false _ _ _ (lt-leb _ _ l))) ∙ headed .on }
+    name-passes h k l = record {
+      run = rw (map-push (λ n. a-name n) names name) (run-push bytes 0 (map (λ n. a-name n) names) p (a-name name) (headed .run) read);
+      on = sym (gathered-more bytes p (named names) (a-name name) inside read (cond-false _ _ _ (not-wrong names name h k) ∙ cond-false _ _ _ (lt-leb _ _ l))) ∙ headed .on;
+    }
 
 -- one of the earlier names, at q: the others stand behind it
 pub earlier-name : (bytes : List ℕ) (q p : ℕ) (rest : List (List ℕ)) → Run bytes q (map (λ n. a-name n) rest) p → q < p → (other : List ℕ) × (behind : List (List ℕ)) × (rest ≡ other ∷ behind) × (field-at bytes q ≡ Ok (a-name other)) × Run bytes (next-at bytes q) (map (λ n. a-name n) behind) p

@@ -49,11 +49,11 @@ formed-module payload = cond-both (id-sized (drop 1 payload)) (of-kind (kind-num
 
 formed-content : (tag : ℕ) (payload : List ℕ) → Formed-field (content tag payload)
 formed-content tag payload =
-  formed-either (eqb tag 1) _ _ (formed-name payload)
-  (formed-either (eqb tag 2) _ _ (formed-module payload)
-  (formed-either (eqb tag 3) _ _ (formed-either (eqb (length payload) 2) _ _ tt tt)
-  (formed-either (eqb tag 4) _ _ (formed-either (eqb (length payload) 6) _ _ tt tt)
-  (formed-either (eqb tag 5) _ _ (formed-either (eqb (length payload) 4) _ _ tt tt) tt))))
+    formed-either (eqb tag 1) _ _ (formed-name payload)
+    (formed-either (eqb tag 2) _ _ (formed-module payload)
+    (formed-either (eqb tag 3) _ _ (formed-either (eqb (length payload) 2) _ _ tt tt)
+    (formed-either (eqb tag 4) _ _ (formed-either (eqb (length payload) 6) _ _ tt tt)
+    (formed-either (eqb tag 5) _ _ (formed-either (eqb (length payload) 4) _ _ tt tt) tt))))
 
 formed-at : (bytes : List ℕ) (p : ℕ) → Formed-field (field-at bytes p)
 formed-at bytes p = formed-either (ltb (length bytes) (p + 3)) _ _ tt (formed-either (ltb (length bytes) (next-at bytes p)) _ _ tt (formed-content (getD bytes p 0) (payload-at bytes p)))
@@ -77,21 +77,22 @@ module _ {whole g : Graph} (so : So-far whole g) where
   -- a record that is not refused
   record-so-far : (e : Entry) → Formed e → entry-refusal g e ≡ None → aim-refusal whole e ≡ None → So-far whole (grown g (latest g) e)
   record-so-far e formed passed aimed =
-    let order = cond-none (misplaced g e) _ _ passed in
-    let well-named = cond-none (misnamed g e) _ _ (order .1) in
-    let room = cond-none (over-limit g e) _ _ (well-named .1) in
-    let known = cond-none (unknown-name g e) _ _ (room .1) in
-    let once = cond-none (given-twice g (latest g) e) _ _ (known .1) in
-    let owned = cond-none (wrong-owner g (latest g) e) _ _ (once .1) in
-    so-far-push whole g (latest g) e so (record
-      { formed = formed
-      ; behind = behind-latest e
-      ; well-named = well-named .0
-      ; room = room .0
-      ; known = known .0
-      ; once = once .0
-      ; owned = owned .0
-      ; aimed = aimed })
+      let order = cond-none (misplaced g e) _ _ passed in
+      let well-named = cond-none (misnamed g e) _ _ (order .1) in
+      let room = cond-none (over-limit g e) _ _ (well-named .1) in
+      let known = cond-none (unknown-name g e) _ _ (room .1) in
+      let once = cond-none (given-twice g (latest g) e) _ _ (known .1) in
+      let owned = cond-none (wrong-owner g (latest g) e) _ _ (once .1) in
+      so-far-push whole g (latest g) e so (record {
+        formed = formed;
+        behind = behind-latest e;
+        well-named = well-named .0;
+        room = room .0;
+        known = known .0;
+        once = once .0;
+        owned = owned .0;
+        aimed = aimed;
+      })
 
   -- the same of a field
   field-so-far : (c : Result Entry Reason) (place : ℕ) (later : Option Fault) → Formed-field c → field-refusal g c ≡ None → field-aim whole place c later ≡ None → So-far whole (with-field g c) × (later ≡ None)
@@ -102,9 +103,9 @@ module _ {whole g : Graph} (so : So-far whole g) where
 gathered-so-far : (whole g h : Graph) (fs : List Placed) → All (λ (f : Placed). Formed-field (f .content)) fs → gathered g fs ≡ Ok h → aims whole fs ≡ None → So-far whole g → So-far whole h
 gathered-so-far whole g h [] formed passed aimed so = let same : g ≡ h = cc in subst (So-far whole) same so
 gathered-so-far whole g h (f ∷ fs) formed passed aimed so =
-  let ok = unless-ok layer.Sheet (field-refusal g (f .content)) (f .place) (gathered (with-field g (f .content)) fs) h passed in
-  let next = field-so-far so (f .content) (f .place) (aims whole fs) (formed .0) (ok .0) aimed in
-  gathered-so-far whole (with-field g (f .content)) h fs (formed .1) (ok .1) (next .1) (next .0)
+    let ok = unless-ok layer.Sheet (field-refusal g (f .content)) (f .place) (gathered (with-field g (f .content)) fs) h passed in
+    let next = field-so-far so (f .content) (f .place) (aims whole fs) (formed .0) (ok .0) aimed in
+    gathered-so-far whole (with-field g (f .content)) h fs (formed .1) (ok .1) (next .1) (next .0)
 
 -- what a fault ends is the graph with the name `default` alone
 sound-unless : (f : Option Fault) (r : Result Graph Fault) → (f ≡ None → Sound (or-only-default r)) → Sound (or-only-default (unless f r))
@@ -117,11 +118,11 @@ sound-then (Err f) next sound = default-sound
 
 pub graph-sound : (bytes : List ℕ) → Sound (graph-of bytes)
 graph-sound bytes =
-  sound-unless (too-long bytes) _ (λ _.
-  sound-then (gathered no-records (fields-at bytes 0)) (finished bytes) (λ g gathers.
-  sound-unless (no-name bytes g) _ (λ named.
-  sound-unless (aims g (fields-at bytes 0)) (Ok g) (λ aimed.
-  so-far-sound g (gathered-so-far g no-records g (fields-at bytes 0) (formed-all (length bytes) bytes 0) gathers aimed (nothing-so-far g)) (some-name (length (g .names)) (cond-none _ _ _ named .0))))))
+    sound-unless (too-long bytes) _ (λ _.
+    sound-then (gathered no-records (fields-at bytes 0)) (finished bytes) (λ g gathers.
+    sound-unless (no-name bytes g) _ (λ named.
+    sound-unless (aims g (fields-at bytes 0)) (Ok g) (λ aimed.
+    so-far-sound g (gathered-so-far g no-records g (fields-at bytes 0) (formed-all (length bytes) bytes 0) gathers aimed (nothing-so-far g)) (some-name (length (g .names)) (cond-none _ _ _ named .0))))))
   where
     some-name : (n : ℕ) → eqb n 0 ≡ false → 0 < n
     some-name n h = grind (arith, tells)

@@ -1,8 +1,7 @@
 -- From one field of a sheet to the next.
 use mathlib.Core.Path.{_≡_, refl, sym, _∙_, ap}
-use mathlib.Core.Bool.{Bool, true, false, cond}
+use mathlib.Core.Bool.{true, false, cond}
 use mathlib.Core.List.{List, [], _∷_, _++_}
-use mathlib.Core.Logic.{_⊎_, inl, inr}
 use Prim.Native.Nat.{ℕ, zero, suc, _+_, _≤_, _<_}
 use native.Mathlib.Omega.{arith}
 use lib.Dec.{ltb}
@@ -45,15 +44,15 @@ fields-more bytes p h = steps-enough (length bytes) (suc (length bytes)) bytes p
 -- opening goes past a field that is not refused
 pub gathered-more : (bytes : List ℕ) (p : ℕ) (g : Graph) (e : Entry) → p < length bytes → field-at bytes p ≡ Ok e → entry-refusal g e ≡ None → gathered g (fields-at bytes p) ≡ gathered (grown g (latest g) e) (fields-at bytes (next-at bytes p))
 gathered-more bytes p g e h f none =
-  ap (gathered g) (fields-more bytes p h)
-  ∙ ap (λ c. unless (sheet-fault (field-refusal g c) p) (gathered (with-field g c) (fields-at bytes (next-at bytes p)))) f
-  ∙ ap (λ r. unless (sheet-fault r p) (gathered (grown g (latest g) e) (fields-at bytes (next-at bytes p)))) none
+    ap (gathered g) (fields-more bytes p h)
+    ∙ ap (λ c. unless (sheet-fault (field-refusal g c) p) (gathered (with-field g c) (fields-at bytes (next-at bytes p)))) f
+    ∙ ap (λ r. unless (sheet-fault r p) (gathered (grown g (latest g) e) (fields-at bytes (next-at bytes p)))) none
 
 -- and ends at one that is
 pub gathered-stop : (bytes : List ℕ) (p : ℕ) (g : Graph) (reason : Reason) → p < length bytes → field-refusal g (field-at bytes p) ≡ Some reason → gathered g (fields-at bytes p) ≡ Err (record { reason = reason; place = p; layer = layer.Sheet })
 gathered-stop bytes p g reason h refused =
-  ap (gathered g) (fields-more bytes p h)
-  ∙ ap (λ r. unless (sheet-fault r p) (gathered (with-field g (field-at bytes p)) (fields-at bytes (next-at bytes p)))) refused
+    ap (gathered g) (fields-more bytes p h)
+    ∙ ap (λ r. unless (sheet-fault r p) (gathered (with-field g (field-at bytes p)) (fields-at bytes (next-at bytes p)))) refused
 
 pub run-push : (bytes : List ℕ) (p : ℕ) (es : List Entry) (q : ℕ) (e : Entry) → Run bytes p es q → field-at bytes q ≡ Ok e → Run bytes p (es ++ (e ∷ [])) (next-at bytes q)
 run-push bytes p [] q e r f = rw r (f, refl)

@@ -1,7 +1,7 @@
 -- The fields of a sheet: one byte of tag, two bytes of length, then the payload.
-use mathlib.Core.Bool.{Bool, true, false, cond}
-use mathlib.Core.List.{List, [], _∷_}
-use Prim.Native.Nat.{ℕ, zero, suc, _+_, _*_}
+use mathlib.Core.Bool.{cond}
+use mathlib.Core.List.{List}
+use Prim.Native.Nat.{ℕ, _+_, _*_}
 use lib.Dec.{eqb, ltb}
 use lib.ListN.{length, getD, take, drop}
 use Rattle.std.specs.declared.option.Option.{Option}
@@ -50,12 +50,12 @@ as-export payload = cond (eqb (length payload) 4) (Ok (an-export (two payload 0)
 
 abbrev pub content : ℕ → List ℕ → Result Entry Reason
 content tag payload =
-  cond (eqb tag 1) (as-name payload)
-  (cond (eqb tag 2) (as-module payload)
-  (cond (eqb tag 3) (as-star payload)
-  (cond (eqb tag 4) (as-import payload)
-  (cond (eqb tag 5) (as-export payload)
-  (Err Malformed)))))
+    cond (eqb tag 1) (as-name payload)
+    (cond (eqb tag 2) (as-module payload)
+    (cond (eqb tag 3) (as-star payload)
+    (cond (eqb tag 4) (as-import payload)
+    (cond (eqb tag 5) (as-export payload)
+    (Err Malformed)))))
 
 -- where the field behind the one at p begins
 abbrev pub next-at : List ℕ → ℕ → ℕ
@@ -67,6 +67,6 @@ payload-at bytes p = take (two bytes (p + 1)) (drop (p + 3) bytes)
 -- the field that begins at p: cut short where the sheet ends before its header or its payload does
 abbrev pub field-at : List ℕ → ℕ → Result Entry Reason
 field-at bytes p =
-  cond (ltb (length bytes) (p + 3)) (Err BadLength)
-  (cond (ltb (length bytes) (next-at bytes p)) (Err BadLength)
-  (content (getD bytes p 0) (payload-at bytes p)))
+    cond (ltb (length bytes) (p + 3)) (Err BadLength)
+    (cond (ltb (length bytes) (next-at bytes p)) (Err BadLength)
+    (content (getD bytes p 0) (payload-at bytes p)))

@@ -1,4 +1,5 @@
 pub mod Fields
 pub mod Borrowed
 pub mod Opening
+pub mod Foremost
 pub mod Progressing

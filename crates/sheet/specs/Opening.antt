@@ -1,5 +1,5 @@
 -- Opening a sheet: the graph that it means, or its first fault.
-use mathlib.Core.Bool.{Bool, true, false, cond, not}
+use mathlib.Core.Bool.{Bool, false, cond, not}
 use mathlib.Core.List.{List, [], _∷_}
 use Prim.Native.Nat.{ℕ, zero, suc, _-_}
 use lib.Dec.{eqb, ltb}
@@ -14,7 +14,7 @@ use Rattle.graph.specs.declared.fault.Reason.{Reason}
 use Rattle.graph.specs.declared.fault.Reason.the-variants.{BadLength, OutOfOrder, BadName, OverLimit, NoRecord, Duplicate, WrongKind}
 use Rattle.graph.specs.Graphs.{Graph, no-records, only-default}
 use Rattle.graph.specs.Entries.{Entry, a-name, a-module, a-star, an-import, an-export, grown}
-use Rattle.graph.specs.Rules.{misnamed, over-limit, unknown-name, given-twice, wrong-owner, aim-refusal, first-given, placed, either-fault, unless, and-then}
+use Rattle.graph.specs.Rules.{misnamed, over-limit, unknown-name, given-twice, wrong-owner, Case, first-given, aim-refusal, placed, either-fault, unless, and-then}
 use Rattle.sheet.specs.Fields.{next-at, field-at}
 
 -- a field, and the place of its first byte
@@ -56,16 +56,20 @@ misplaced g (a-star target) = eqb (length (g .modules)) 0
 misplaced g (an-import symbol target wanted) = eqb (length (g .modules)) 0
 misplaced g (an-export name symbol) = eqb (length (g .modules)) 0
 
--- why a record is refused behind those of g: the smallest number whose case it is
+-- why a record may be refused behind those of g, the smaller number first
+abbrev pub entry-cases : Graph → Entry → List Case
+entry-cases g e =
+    record { given = misplaced g e; reason = OutOfOrder }
+    ∷ record { given = misnamed g e; reason = BadName }
+    ∷ record { given = over-limit g e; reason = OverLimit }
+    ∷ record { given = unknown-name g e; reason = NoRecord }
+    ∷ record { given = given-twice g (latest g) e; reason = Duplicate }
+    ∷ record { given = wrong-owner g (latest g) e; reason = WrongKind }
+    ∷ []
+
+-- why it is refused
 abbrev pub entry-refusal : Graph → Entry → Option Reason
-entry-refusal g e = first-given
-  ( record { given = misplaced g e; reason = OutOfOrder }
-  ∷ record { given = misnamed g e; reason = BadName }
-  ∷ record { given = over-limit g e; reason = OverLimit }
-  ∷ record { given = unknown-name g e; reason = NoRecord }
-  ∷ record { given = given-twice g (latest g) e; reason = Duplicate }
-  ∷ record { given = wrong-owner g (latest g) e; reason = WrongKind }
-  ∷ [])
+entry-refusal g e = first-given (entry-cases g e)
 
 -- the same of a field, where 10 and 11 come first
 abbrev pub field-refusal : Graph → Result Entry Reason → Option Reason

@@ -1,6 +1,6 @@
 -- What the checks of a sheet know between two fields.
 use mathlib.Core.Path.{_≡_}
-use mathlib.Core.Bool.{Bool, true, false, cond, not, _||_}
+use mathlib.Core.Bool.{Bool, false, cond, not, _||_}
 use mathlib.Core.List.{List, [], _∷_, map}
 use Prim.Native.Nat.{ℕ, _<_, _≤_, _+_, _-_}
 use lib.Dec.{eqb, leb}
@@ -9,7 +9,6 @@ use Rattle.std.specs.declared.option.Option.{Option}
 use Rattle.std.specs.declared.option.Option.the-variants.{Some, None}
 use Rattle.std.specs.Finite.{nth}
 use Rattle.std.specs.shelf.Lists.{All}
-use Rattle.std.specs.declared.result.Result.{Result}
 use Rattle.std.specs.declared.result.Result.the-variants.{Ok}
 use Rattle.graph.specs.declared.fault.Reason.{Reason}
 use Rattle.graph.specs.declared.fault.Reason.the-variants.{OutOfOrder, OverLimit, NoRecord, Duplicate, WrongKind}
@@ -75,12 +74,12 @@ clashes e (x ∷ xs) = clash e x || clashes e xs
 -- why a record that needs an owner is refused
 abbrev pub owned-refusal : ℕ → ℕ → Bool → Bool → Bool → Option Reason
 owned-refusal modules count unknown twice es =
-  cond (eqb modules 0) (Some OutOfOrder)
-  (cond (leb 1024 count) (Some OverLimit)
-  (cond unknown (Some NoRecord)
-  (cond twice (Some Duplicate)
-  (cond (not es) (Some WrongKind)
-  None))))
+    cond (eqb modules 0) (Some OutOfOrder)
+    (cond (leb 1024 count) (Some OverLimit)
+    (cond unknown (Some NoRecord)
+    (cond twice (Some Duplicate)
+    (cond (not es) (Some WrongKind)
+    None))))
 
 abbrev pub latest-is-es : Progress → Bool
 latest-is-es s = is-es (nth (take (s .modules) (s .kinds)) (s .modules - 1))

@@ -1,5 +1,4 @@
 ghost use mathlib.Core.Path.{_≡_};
-ghost use mathlib.Core.Bool.{Bool};
 ghost use Prim.Native.Nat.{ℕ, _<_};
 ghost use mathlib.Core.List.{List, map};
 ghost use lib.ListN.{length};
@@ -9,15 +8,14 @@ ghost use Rattle.std.specs.Finite.{nth};
 ghost use Rattle.std.specs.declared.option.Option.the-variants.{Some, None};
 ghost use Rattle.std.specs.declared.result.Result.the-variants.{Ok, Err};
 ghost use Rattle.graph.specs.Graphs.{Graph, no-records};
-ghost use Rattle.graph.specs.Entries.{Entry, a-name, grown};
+ghost use Rattle.graph.specs.Entries.{Entry, a-name};
 ghost use Rattle.graph.specs.Rules.{wants-unknown, is-es};
 ghost use Rattle.graph.specs.Lookups.{kind-of};
 ghost use Rattle.graph.specs.Soundness.{Sound};
 ghost use Rattle.sheet.specs.Borrowed.{entry-of};
-ghost use Rattle.sheet.specs.Fields.{next-at};
-ghost use Rattle.sheet.specs.Opening.{fields-at, gathered, entry-refusal, aims, opened};
+ghost use Rattle.sheet.specs.Opening.{fields-at, gathered, entry-refusal, aims, too-long, finished, opened};
+ghost use Rattle.sheet.specs.Foremost.{First-fault};
 ghost use Rattle.sheet.specs.Progressing.{Run, Head, Standing, Counted, clash, clashes, owned-refusal, latest-is-es, Roomy, Advanced, aim-by};
-
 use super::field::Field;
 use super::field::read_field;
 use super::field::sheet_fault;
@@ -216,7 +214,9 @@ fn aim_refusal(field: Field, kinds: &[Kind]) -> Option<Reason>
             Some(Kind::Es) => None,
             Some(Kind::Empty) => None,
         },
-        Field::Import { target, .. } if usize::from(target) >= kinds.len() => Some(Reason::NoRecord),
+        Field::Import { target, .. } if usize::from(target) >= kinds.len() => Some(
+            Reason::NoRecord,
+        ),
         _ => None,
     }
 }
@@ -238,17 +238,33 @@ fn check_targets(bytes: &[u8], kinds: &[Kind]) -> Result<(), Fault>
     Ok(())
 }
 
-// Opens a sheet: nothing stands in the way, or its first fault does.
-pub fn open(bytes: &[u8]) -> Result<(), Fault>
-    ensures { λ r. ⌜ Cases r (λ _. (g : Graph) × (opened (now (bytes .entry)) ≡ Ok g) × Sound g) (λ f. opened (now (bytes .entry)) ≡ Err f) ⌝ }
+// Checks the length of a sheet, before anything is read.
+fn check_length(bytes: &[u8]) -> Result<(), Fault>
+    ensures { λ r. ⌜ Cases r (λ _. too-long (now (bytes .entry)) ≡ None) (λ f. too-long (now (bytes .entry)) ≡ Some f) ⌝ }
 {
     if bytes.len() > 60000 {
         return Err(sheet_fault(Reason::BadLength, 60000));
     }
-    let names = read_names(bytes)?;
-    let progress = check_records(bytes, names)?;
+    Ok(())
+}
+
+// The checks behind the last field: that there is a name, then the targets.
+fn finish(bytes: &[u8], progress: &Progress) -> Result<(), Fault>
+    ensures { λ r. ⌜ ((g : Graph) → Counted (now (progress .entry)) g → Cases r (λ _. finished (now (bytes .entry)) g ≡ Ok g) (λ f. finished (now (bytes .entry)) g ≡ Err f)) ⌝ }
+{
     if progress.names == 0 {
         return Err(sheet_fault(Reason::BadName, bytes.len()));
     }
     check_targets(bytes, &progress.kinds[0..progress.modules])
+}
+
+// Opens a sheet: nothing stands in the way, or its first fault does.
+pub fn open(bytes: &[u8]) -> Result<(), Fault>
+    ensures opens { λ r. ⌜ Cases r (λ _. (g : Graph) × (opened (now (bytes .entry)) ≡ Ok g) × Sound g) (λ f. opened (now (bytes .entry)) ≡ Err f) ⌝ }
+    ensures first { λ r. ⌜ Cases r (λ _. (f : Fault) → First-fault (now (bytes .entry)) f → ⊥) (λ f. First-fault (now (bytes .entry)) f × ((e : Fault) → First-fault (now (bytes .entry)) e → e ≡ f)) ⌝ }
+{
+    check_length(bytes)?;
+    let names = read_names(bytes)?;
+    let progress = check_records(bytes, names)?;
+    finish(bytes, &progress)
 }

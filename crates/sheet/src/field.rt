@@ -1,13 +1,12 @@
 ghost use mathlib.Core.Path.{_≡_};
 ghost use Prim.Native.Nat.{_+_, _<_, _≤_, _^_};
-ghost use lib.ListN.{length, getD};
+ghost use lib.ListN.{length};
 ghost use Rattle.std.specs.Results.{Cases};
 ghost use Rattle.std.specs.Vec.{made};
 ghost use Rattle.std.specs.declared.result.Result.the-variants.{Ok, Err};
 ghost use Rattle.graph.specs.Rules.{wanted-numbered, kind-numbered};
 ghost use Rattle.sheet.specs.Fields.{two, next-at, content, field-at, fault-at};
 ghost use Rattle.sheet.specs.Borrowed.{entry-of, Begins, content-of};
-
 use graph::fault::Fault;
 use graph::fault::Layer;
 use graph::fault::Reason;
@@ -17,11 +16,27 @@ use graph::records::Wanted;
 // One field of a sheet. The bytes of a name or an id are a part of the sheet that begins at `offset`.
 #[derive(Clone, Copy)]
 pub enum Field<'a> {
-    Name { bytes: &'a [u8], offset: usize },
-    Module { kind: Kind, id: &'a [u8], offset: usize },
-    Star { target: u16 },
-    Import { symbol: u16, target: u16, wanted: Wanted },
-    Export { name: u16, symbol: u16 },
+    Name {
+        bytes: &'a [u8],
+        offset: usize,
+    },
+    Module {
+        kind: Kind,
+        id: &'a [u8],
+        offset: usize,
+    },
+    Star {
+        target: u16,
+    },
+    Import {
+        symbol: u16,
+        target: u16,
+        wanted: Wanted,
+    },
+    Export {
+        name: u16,
+        symbol: u16,
+    },
 }
 
 // A field, and where the next one begins.
@@ -104,7 +119,10 @@ fn read_name(payload: &[u8], offset: usize) -> Result<Field<'_>, Reason>
     if payload.len() < 1 || payload.len() > 255 {
         return Err(Reason::Malformed);
     }
-    Ok(Field::Name { bytes: payload, offset })
+    Ok(Field::Name {
+        bytes: payload,
+        offset,
+    })
 }
 
 fn read_module(payload: &[u8], offset: usize) -> Result<Field<'_>, Reason>
@@ -121,7 +139,11 @@ fn read_module(payload: &[u8], offset: usize) -> Result<Field<'_>, Reason>
     if id.len() < 1 || id.len() > 64 {
         return Err(Reason::Malformed);
     }
-    Ok(Field::Module { kind, id, offset: offset + 1 })
+    Ok(Field::Module {
+        kind,
+        id,
+        offset: offset + 1,
+    })
 }
 
 // The field that begins at `at`.

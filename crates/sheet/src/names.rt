@@ -8,7 +8,6 @@ ghost use Rattle.graph.specs.Graphs.{no-records, default-name};
 ghost use Rattle.sheet.specs.Borrowed.{is-name};
 ghost use Rattle.sheet.specs.Opening.{fields-at, gathered};
 ghost use Rattle.sheet.specs.Progressing.{Head};
-
 use super::field::Field;
 use super::field::read_field;
 use super::field::sheet_fault;

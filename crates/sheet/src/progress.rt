@@ -1,5 +1,4 @@
 ghost use Prim.Native.Nat.{_≤_};
-
 use graph::records::Kind;
 
 // What the fields before `at` have come to.

@@ -2,8 +2,7 @@
 use mathlib.Core.Path.{_≡_, refl, sym, _∙_, ap}
 use mathlib.Core.Bool.{Bool, true, false, cond, _&&_}
 use mathlib.Core.List.{List, [], _∷_, _++_, map, append-assoc}
-use Prim.Native.Nat.{ℕ, zero, suc, _+_, _-_, _≤_}
-use native.Mathlib.Omega.{arith}
+use Prim.Native.Nat.{ℕ, _+_, _-_, _≤_}
 use lib.Dec.{eqb, ltb}
 use lib.ListN.{length}
 use Rattle.std.specs.declared.option.Option.{Option}
@@ -13,7 +12,6 @@ use Rattle.std.specs.declared.result.Result.the-variants.{Ok, Err}
 use Rattle.std.specs.Finite.{nth}
 use Rattle.std.specs.Options.{isSome, mapped}
 use Rattle.std.specs.Results.{isOk}
-use Rattle.std.specs.shelf.Lists.{kept-by}
 use Rattle.std.proofs.shelf.Lists.{append-nil, length-push, length-map, map-push}
 use Rattle.std.proofs.shelf.Tests.{ltb-false, false≢true}
 use Rattle.graph.specs.declared.fault.Fault.{Fault}
@@ -26,10 +24,10 @@ use Rattle.graph.specs.Entries.{Entry, a-name, a-module, a-star, an-import, an-
 use Rattle.graph.specs.Lookups.{kind-of, kind-in, targets-in, exports-in, symbol-in, import-in}
 use Rattle.graph.specs.Rules.{unless, and-then}
 use Rattle.sheet_source.specs.declared.search.Sought.the-variants as sought
-use Rattle.sheet.specs.Opening.{Placed, latest, entry-refusal, field-refusal, with-field, sheet-fault, gathered, fields-at, aims, too-long, no-name, finished, opened, or-only-default, graph-of, entry-then, entries-of, entries}
+use Rattle.sheet.specs.Opening.{Placed, latest, field-refusal, with-field, sheet-fault, gathered, fields-at, aims, too-long, no-name, finished, opened, or-only-default, graph-of, entry-then, entries-of, entries}
 use Rattle.sheet_source.specs.Searching.{Owned, owned, modules-after, entry-kind, entry-target, entry-import, entry-export, passes, found, sought-from}
 use Rattle.sheet.proofs.Refusing.{nth-map}
-use Rattle.sheet_source.proofs.Choosing.{one, chosen, bound, chosen-append, chosen-chosen, length-chosen, nth-chosen}
+use Rattle.sheet_source.proofs.Choosing.{one, chosen, bound, chosen-chosen, length-chosen, nth-chosen}
 
 -- g with these records behind its own
 abbrev pub built : Graph → List Entry → Graph
@@ -55,12 +53,12 @@ and-then-passes (Err f) next y e = absurd (false≢true (cc e))
 -- the graph of a sheet that opens, and its size
 opened-built : (bytes : List ℕ) (h : Graph) → opened bytes ≡ Ok h → (h ≡ built no-records (entries bytes)) × (length bytes ≤ 60000)
 opened-built bytes h e =
-  let short = unless-passes (too-long bytes) _ h e in
-  let all = and-then-passes (gathered no-records (fields-at bytes 0)) (finished bytes) h (short .1) in
-  let named = unless-passes (no-name bytes (all .0)) _ h (all .2) in
-  let aimed = unless-passes (aims (all .0) (fields-at bytes 0)) _ h (named .1) in
-  let same : h ≡ all .0 = cc (aimed .1) in
-  (same ∙ gathered-built no-records (fields-at bytes 0) (all .0) (all .1), not-long (length bytes) _ (short .0))
+    let short = unless-passes (too-long bytes) _ h e in
+    let all = and-then-passes (gathered no-records (fields-at bytes 0)) (finished bytes) h (short .1) in
+    let named = unless-passes (no-name bytes (all .0)) _ h (all .2) in
+    let aimed = unless-passes (aims (all .0) (fields-at bytes 0)) _ h (named .1) in
+    let same : h ≡ all .0 = cc (aimed .1) in
+    (same ∙ gathered-built no-records (fields-at bytes 0) (all .0) (all .1), not-long (length bytes) _ (short .0))
   where
     not-long : (n : ℕ) (f : Fault) → cond (ltb 60000 n) (Some f) None ≡ None → n ≤ 60000
     not-long n f e = by-test (ltb 60000 n) refl e
@@ -81,10 +79,10 @@ module _ {Y : Type 0} (part : Graph → List Y) (pick : ℕ → Entry → Option
   built-part : (g : Graph) (es : List Entry) → part (built g es) ≡ part g ++ chosen (λ (x : Owned). pick (x .owner) (x .entry)) (owned (length (g .modules)) es)
   built-part g [] = sym (append-nil (part g))
   built-part g (e ∷ es) =
-    built-part (grown g (latest g) e) es
-    ∙ ap (λ n. part (grown g (latest g) e) ++ chosen (λ (x : Owned). pick (x .owner) (x .entry)) (owned n es)) (modules-grown g e)
-    ∙ ap (λ l. l ++ chosen (λ (x : Owned). pick (x .owner) (x .entry)) (owned (modules-after (length (g .modules)) e) es)) (step g e)
-    ∙ append-assoc (part g) (one (pick (latest g) e)) (chosen (λ (x : Owned). pick (x .owner) (x .entry)) (owned (modules-after (length (g .modules)) e) es))
+      built-part (grown g (latest g) e) es
+      ∙ ap (λ n. part (grown g (latest g) e) ++ chosen (λ (x : Owned). pick (x .owner) (x .entry)) (owned n es)) (modules-grown g e)
+      ∙ ap (λ l. l ++ chosen (λ (x : Owned). pick (x .owner) (x .entry)) (owned (modules-after (length (g .modules)) e) es)) (step g e)
+      ∙ append-assoc (part g) (one (pick (latest g) e)) (chosen (λ (x : Owned). pick (x .owner) (x .entry)) (owned (modules-after (length (g .modules)) e) es))
 
 kinds-step : (g : Graph) (e : Entry) → map kind-of (grown g (latest g) e .modules) ≡ map kind-of (g .modules) ++ one (entry-kind e)
 kinds-step g (a-name bytes) = sym (append-nil (map kind-of (g .modules)))
@@ -254,33 +252,33 @@ module _ (bytes : List ℕ) (opens : isOk (opened bytes) ≡ true) where
 
   pub kind-answer : (m : ℕ) → bound (nth (sought-from bytes sought.Modules 0 0) m) (λ (x : Owned). entry-kind (x .entry)) ≡ kind-in (graph-of bytes .modules) m
   kind-answer m =
-    nth-chosen (found sought.Modules) (λ (x : Owned). entry-kind (x .entry)) (λ _. refl) (λ (x : Owned). entry-kind (x .entry)) (λ _ _. refl) (owned 0 (entries bytes)) m
-    ∙ sym (ap (λ l. nth l m) (kinds-are bytes opens))
-    ∙ nth-map kind-of (graph-of bytes .modules) m
+      nth-chosen (found sought.Modules) (λ (x : Owned). entry-kind (x .entry)) (λ _. refl) (λ (x : Owned). entry-kind (x .entry)) (λ _ _. refl) (owned 0 (entries bytes)) m
+      ∙ sym (ap (λ l. nth l m) (kinds-are bytes opens))
+      ∙ nth-map kind-of (graph-of bytes .modules) m
 
   pub import-answer : (i : ℕ) → bound (nth (sought-from bytes sought.Imports 0 0) i) (λ (x : Owned). entry-import (x .owner) (x .entry)) ≡ nth (graph-of bytes .imports) i
   import-answer i =
-    nth-chosen (found sought.Imports) (λ (x : Owned). entry-import (x .owner) (x .entry)) (λ _. refl) (λ (x : Owned). entry-import (x .owner) (x .entry)) (λ _ _. refl) (owned 0 (entries bytes)) i
-    ∙ sym (ap (λ l. nth l i) (imports-are bytes opens))
+      nth-chosen (found sought.Imports) (λ (x : Owned). entry-import (x .owner) (x .entry)) (λ _. refl) (λ (x : Owned). entry-import (x .owner) (x .entry)) (λ _ _. refl) (owned 0 (entries bytes)) i
+      ∙ sym (ap (λ l. nth l i) (imports-are bytes opens))
 
   pub star-answer : (m k : ℕ) → bound (nth (sought-from bytes (sought.StarsOf m) 0 0) k) (λ (x : Owned). entry-target (x .entry)) ≡ nth (targets-in (graph-of bytes .stars) m) k
   star-answer m k =
-    nth-chosen (found (sought.StarsOf m)) _ (λ (x : Owned). star-found m (x .owner) (x .entry)) (λ (x : Owned). entry-target (x .entry)) (λ (x : Owned). star-told m (x .owner) (x .entry)) (owned 0 (entries bytes)) k
-    ∙ sym (ap (λ l. nth l k) (targets-chosen m (graph-of bytes .stars) ∙ ap (chosen (λ (s : Star). when (eqb (s .owner) m) (s .target))) (stars-are bytes opens) ∙ chosen-chosen _ _ (owned 0 (entries bytes))))
+      nth-chosen (found (sought.StarsOf m)) _ (λ (x : Owned). star-found m (x .owner) (x .entry)) (λ (x : Owned). entry-target (x .entry)) (λ (x : Owned). star-told m (x .owner) (x .entry)) (owned 0 (entries bytes)) k
+      ∙ sym (ap (λ l. nth l k) (targets-chosen m (graph-of bytes .stars) ∙ ap (chosen (λ (s : Star). when (eqb (s .owner) m) (s .target))) (stars-are bytes opens) ∙ chosen-chosen _ _ (owned 0 (entries bytes))))
 
   pub export-answer : (m k : ℕ) → bound (nth (sought-from bytes (sought.ExportsOf m) 0 0) k) (λ (x : Owned). entry-export (x .owner) (x .entry)) ≡ nth (exports-in (graph-of bytes .exports) m) k
   export-answer m k =
-    nth-chosen (found (sought.ExportsOf m)) _ (λ (x : Owned). export-found m (x .owner) (x .entry)) (λ (x : Owned). entry-export (x .owner) (x .entry)) (λ (x : Owned). export-told m (x .owner) (x .entry)) (owned 0 (entries bytes)) k
-    ∙ sym (ap (λ l. nth l k) (exports-chosen m (graph-of bytes .exports) ∙ ap (chosen (λ (e : Export). when (eqb (e .owner) m) e)) (exports-are bytes opens) ∙ chosen-chosen _ _ (owned 0 (entries bytes))))
+      nth-chosen (found (sought.ExportsOf m)) _ (λ (x : Owned). export-found m (x .owner) (x .entry)) (λ (x : Owned). entry-export (x .owner) (x .entry)) (λ (x : Owned). export-told m (x .owner) (x .entry)) (owned 0 (entries bytes)) k
+      ∙ sym (ap (λ l. nth l k) (exports-chosen m (graph-of bytes .exports) ∙ ap (chosen (λ (e : Export). when (eqb (e .owner) m) e)) (exports-are bytes opens) ∙ chosen-chosen _ _ (owned 0 (entries bytes))))
 
   pub symbol-answer : (m n : ℕ) → bound (nth (sought-from bytes (sought.ExportsNamed m n) 0 0) 0) (λ (x : Owned). mapped symbol-of (entry-export (x .owner) (x .entry))) ≡ symbol-in (graph-of bytes .exports) m n
   symbol-answer m n =
-    nth-chosen (found (sought.ExportsNamed m n)) _ (λ (x : Owned). named-found m n (x .owner) (x .entry)) (λ (x : Owned). mapped symbol-of (entry-export (x .owner) (x .entry))) (λ (x : Owned). named-told m n (x .owner) (x .entry)) (owned 0 (entries bytes)) 0
-    ∙ sym (first-chosen (λ es. symbol-in es m n) (λ (e : Export). eqb (e .owner) m && eqb (e .name) n) (λ (e : Export). e .symbol) refl (λ _ _. refl) (graph-of bytes .exports)
+      nth-chosen (found (sought.ExportsNamed m n)) _ (λ (x : Owned). named-found m n (x .owner) (x .entry)) (λ (x : Owned). mapped symbol-of (entry-export (x .owner) (x .entry))) (λ (x : Owned). named-told m n (x .owner) (x .entry)) (owned 0 (entries bytes)) 0
+      ∙ sym (first-chosen (λ es. symbol-in es m n) (λ (e : Export). eqb (e .owner) m && eqb (e .name) n) (λ (e : Export). e .symbol) refl (λ _ _. refl) (graph-of bytes .exports)
       ∙ ap (λ l. nth l 0) (ap (chosen (λ (e : Export). when (eqb (e .owner) m && eqb (e .name) n) (e .symbol))) (exports-are bytes opens) ∙ chosen-chosen _ _ (owned 0 (entries bytes))))
 
   pub behind-answer : (m s : ℕ) → bound (nth (sought-from bytes (sought.ImportsBehind m s) 0 0) 0) (λ (x : Owned). entry-import (x .owner) (x .entry)) ≡ import-in (graph-of bytes .imports) m s
   behind-answer m s =
-    nth-chosen (found (sought.ImportsBehind m s)) _ (λ (x : Owned). behind-found m s (x .owner) (x .entry)) (λ (x : Owned). entry-import (x .owner) (x .entry)) (λ (x : Owned). behind-told m s (x .owner) (x .entry)) (owned 0 (entries bytes)) 0
-    ∙ sym (first-chosen (λ is. import-in is m s) (λ (i : Import). eqb (i .owner) m && eqb (i .symbol) s) (λ i. i) refl (λ _ _. refl) (graph-of bytes .imports)
+      nth-chosen (found (sought.ImportsBehind m s)) _ (λ (x : Owned). behind-found m s (x .owner) (x .entry)) (λ (x : Owned). entry-import (x .owner) (x .entry)) (λ (x : Owned). behind-told m s (x .owner) (x .entry)) (owned 0 (entries bytes)) 0
+      ∙ sym (first-chosen (λ is. import-in is m s) (λ (i : Import). eqb (i .owner) m && eqb (i .symbol) s) (λ i. i) refl (λ _ _. refl) (graph-of bytes .imports)
       ∙ ap (λ l. nth l 0) (ap (chosen (λ (i : Import). when (eqb (i .owner) m && eqb (i .symbol) s) i)) (imports-are bytes opens) ∙ chosen-chosen _ _ (owned 0 (entries bytes))))

@@ -1,12 +1,10 @@
 -- Going through the records of a sheet.
-use mathlib.Core.Path.{_≡_, refl, sym, _∙_, ap}
-use mathlib.Core.Bool.{Bool, true, false, cond}
+use mathlib.Core.Path.{_≡_, sym, _∙_, ap}
+use mathlib.Core.Bool.{true, false, cond}
 use mathlib.Core.List.{List, [], _∷_}
 use Prim.Native.Nat.{ℕ, zero, suc, _+_, _-_, _<_, _≤_}
 use native.Mathlib.Omega.{arith}
 use lib.ListN.{length}
-use Rattle.std.specs.declared.option.Option.{Option}
-use Rattle.std.specs.declared.option.Option.the-variants.{Some, None}
 use Rattle.std.specs.declared.result.Result.the-variants.{Ok, Err}
 use Rattle.std.specs.Finite.{nth}
 use Rattle.std.specs.shelf.Lists.{kept-by}
@@ -16,7 +14,7 @@ use Rattle.graph.specs.Entries.{Entry, a-name, a-module, a-star, an-import, an-
 use Rattle.sheet_source.specs.declared.search.Sought.{Sought}
 use Rattle.sheet.specs.Fields.{next-at, field-at}
 use Rattle.sheet.specs.Opening.{fields-at, entry-then, entries-of}
-use Rattle.sheet_source.specs.Searching.{Owned, owned, modules-after, passes, found, sought-from}
+use Rattle.sheet_source.specs.Searching.{owned, modules-after, passes, found, sought-from}
 use Rattle.sheet.proofs.Stepping.{fields-more, fields-done}
 
 module _ (bytes : List ℕ) (s : Sought) (modules p : ℕ) where

@@ -12,17 +12,16 @@ ghost use Rattle.sheet.specs.Borrowed.{entry-of};
 ghost use Rattle.sheet_source.specs.Searching.{modules-after, passes, sought-from, entry-kind, entry-target, entry-import, entry-export};
 ghost use Rattle.sheet_source.specs.Found.{found-of};
 ghost use Rattle.sheet.specs.Opening.{opened, graph-of};
-
+use super::search::Found;
+use super::search::Sought;
+use super::sheets::Sheet;
 use graph::records::Export;
 use graph::records::Import;
 use graph::records::Kind;
 use graph::source::ModuleSource;
-use sheet::open;
 use sheet::field::Field;
 use sheet::field::read_field;
-use super::search::Found;
-use super::search::Sought;
-use super::sheets::Sheet;
+use sheet::open;
 
 // Whether a field of this owner is among those that are sought.
 fn is_sought(sought: Sought, owner: usize, field: Field) -> bool

@@ -9,15 +9,15 @@ returns-in-rest c = λ g are. sym (c .loop-at .inv g are) ∙ aims-unread (c .ar
 
 pub returns-in-Some : need.returns-in-Some
 returns-in-Some c = λ g are.
-  sym (c .loop-at .inv g are)
-  ∙ aims-stop (c .args .bytes .now) (c .loop-at .at) g (c .loop-at-test .taken) _ (c .in-Ok .ensures tt .0) (c .args .kinds .now) are _ (c .in-Some .ensures tt)
-  ∙ ap (λ f. Some f) (sym (c .sheet-fault .ensures))
+    sym (c .loop-at .inv g are)
+    ∙ aims-stop (c .args .bytes .now) (c .loop-at .at) g (c .loop-at-test .taken) _ (c .in-Ok .ensures tt .0) (c .args .kinds .now) are _ (c .in-Some .ensures tt)
+    ∙ ap (λ f. Some f) (sym (c .sheet-fault .ensures))
 
 pub loop-at-again : need.loop-at-again
 loop-at-again c = λ g are.
-  ap (λ p. aims g (fields-at (c .args .bytes .now) p)) (c .in-Ok .ensures tt .1)
-  ∙ aims-on (c .args .bytes .now) (c .loop-at .at) g (c .loop-at-test .taken) _ (c .in-Ok .ensures tt .0) (c .args .kinds .now) are (c .in-rest-aim-refusal .ensures tt)
-  ∙ c .loop-at .inv g are
+    ap (λ p. aims g (fields-at (c .args .bytes .now) p)) (c .in-Ok .ensures tt .1)
+    ∙ aims-on (c .args .bytes .now) (c .loop-at .at) g (c .loop-at-test .taken) _ (c .in-Ok .ensures tt .0) (c .args .kinds .now) are (c .in-rest-aim-refusal .ensures tt)
+    ∙ c .loop-at .inv g are
 
 pub returns : need.returns
 returns c = λ g are. sym (c .loop-at .inv g are) ∙ aims-done (c .args .bytes .now) (c .loop-at .at) g (c .loop-at-test .left)

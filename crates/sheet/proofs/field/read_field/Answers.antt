@@ -1,4 +1,4 @@
-use mathlib.Core.Path.{refl, sym, _∙_, ap}
+use mathlib.Core.Path.{sym, _∙_, ap}
 use native.Mathlib.Omega.{arith}
 use Rattle.std.specs.declared.result.Result.the-variants.{Err}
 use Rattle.graph.specs.declared.fault.Fault.{Fault}
@@ -11,6 +11,7 @@ returns-in-Ok c = (field-there (c .args .bytes .now) (c .args .at) (c .from-size
 
 pub returns-in-Err : need.returns-in-Err
 returns-in-Err c =
-  let told = c .sheet-fault-in-Err .ensures in
-  ( field-there (c .args .bytes .now) (c .args .at) (c .from-size .result) (c .from-size .ensures ∙ c .two-bytes .ensures) (omega arith) ∙ sym (c .in-Err .ensures tt .content) ∙ ap (λ (f : Fault). Err (f .reason)) (sym told)
-  , told ∙ ap (λ (f : Fault). fault-at (f .reason) (c .args .at)) (sym told) )
+    let told = c .sheet-fault-in-Err .ensures in (
+      field-there (c .args .bytes .now) (c .args .at) (c .from-size .result) (c .from-size .ensures ∙ c .two-bytes .ensures) (omega arith) ∙ sym (c .in-Err .ensures tt .content) ∙ ap (λ (f : Fault). Err (f .reason)) (sym told),
+      told ∙ ap (λ (f : Fault). fault-at (f .reason) (c .args .at)) (sym told),
+    )

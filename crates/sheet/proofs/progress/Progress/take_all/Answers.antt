@@ -7,8 +7,8 @@ loop-self-again c = c .in-Continue-take .ensures tt .next (c .loop-self .inv .0)
 
 pub returns-in-Break-take : need.returns-in-Break-take
 returns-in-Break-take c =
-  let p = err-from-errBy (c .from-residual .result) (c .from-residual .ensures .1) in
-  rw (p .1, p .2) (c .in-Break-take .ensures tt .next (c .loop-self .inv .0) (c .loop-self .inv .1) (c .loop-self-test .taken))
+    let p = err-from-errBy (c .from-residual .result) (c .from-residual .ensures .1) in
+    rw (p .1, p .2) (c .in-Break-take .ensures tt .next (c .loop-self .inv .0) (c .loop-self .inv .1) (c .loop-self-test .taken))
 
 pub returns : need.returns
 returns c = (c .loop-self .inv .0, c .loop-self .inv .1 .counted, ends (c .args .bytes .now) (c .loop-self .self) (c .loop-self .inv .0) (c .loop-self .inv .1) (c .loop-self-test .left))
