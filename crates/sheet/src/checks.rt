@@ -24,8 +24,13 @@ use super::names::read_names;
 use super::progress::Progress;
 use graph::fault::Fault;
 use graph::fault::Reason;
+use graph::limits::MOST_MODULES;
+use graph::limits::MOST_RECORDS;
 use graph::records::Kind;
 use graph::records::Wanted;
+
+// How many bytes a sheet may have.
+pub const MOST_BYTES: usize = 60000;
 
 // Whether `field` may not stand behind `earlier` in one module.
 fn clashes_with(field: Field, earlier: Field) -> bool
@@ -102,7 +107,7 @@ impl Progress {
         if self.modules == 0 {
             return Some(Reason::OutOfOrder);
         }
-        if count >= 1024 {
+        if count >= MOST_RECORDS {
             return Some(Reason::OverLimit);
         }
         if unknown {
@@ -124,7 +129,7 @@ impl Progress {
     {
         match field {
             Field::Name { .. } => Some(Reason::OutOfOrder),
-            Field::Module { .. } if self.modules >= 256 => Some(Reason::OverLimit),
+            Field::Module { .. } if self.modules >= MOST_MODULES => Some(Reason::OverLimit),
             Field::Module { .. } => None,
             Field::Star { .. } => self.owned_refusal(self.stars, false, false),
             Field::Import { wanted, .. } => {
@@ -197,7 +202,7 @@ fn check_records(bytes: &[u8], names: Names) -> Result<Progress, Fault>
         imports: 0,
         exports: 0,
         own: names.end,
-        kinds: [Kind::Es; 256],
+        kinds: [Kind::Es; MOST_MODULES],
     };
     progress.take_all(bytes)?;
     Ok(progress)
@@ -242,8 +247,8 @@ fn check_targets(bytes: &[u8], kinds: &[Kind]) -> Result<(), Fault>
 fn check_length(bytes: &[u8]) -> Result<(), Fault>
     ensures { λ r. ⌜ Cases r (λ _. too-long (now (bytes .entry)) ≡ None) (λ f. too-long (now (bytes .entry)) ≡ Some f) ⌝ }
 {
-    if bytes.len() > 60000 {
-        return Err(sheet_fault(Reason::BadLength, 60000));
+    if bytes.len() > MOST_BYTES {
+        return Err(sheet_fault(Reason::BadLength, MOST_BYTES));
     }
     Ok(())
 }

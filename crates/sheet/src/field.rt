@@ -10,6 +10,8 @@ ghost use Rattle.sheet.specs.Borrowed.{entry-of, Begins, content-of};
 use graph::fault::Fault;
 use graph::fault::Layer;
 use graph::fault::Reason;
+use graph::limits::LONGEST_ID;
+use graph::limits::LONGEST_NAME;
 use graph::records::Kind;
 use graph::records::Wanted;
 
@@ -75,11 +77,13 @@ fn kind_of(number: u8) -> Option<Kind>
     }
 }
 
-// 65535 stands for the whole namespace.
+// The name number of an import that stands for the whole namespace.
+const WHOLE_NAMESPACE: u16 = 65535;
+
 fn wanted_of(number: u16) -> Wanted
     ensures { λ r. ⌜ r ≡ wanted-numbered number ⌝ }
 {
-    if number == 65535 {
+    if number == WHOLE_NAMESPACE {
         Wanted::Whole
     } else {
         Wanted::Name(number)
@@ -116,7 +120,7 @@ fn read_name(payload: &[u8], offset: usize) -> Result<Field<'_>, Reason>
     ensures content { λ r. ⌜ content-of r ≡ content 1 (now (payload .entry)) ⌝ }
     ensures begins { λ r. ⌜ made r (λ f. Begins f offset) ⌝ }
 {
-    if payload.len() < 1 || payload.len() > 255 {
+    if payload.len() < 1 || payload.len() > LONGEST_NAME {
         return Err(Reason::Malformed);
     }
     Ok(Field::Name {
@@ -136,7 +140,7 @@ fn read_module(payload: &[u8], offset: usize) -> Result<Field<'_>, Reason>
     let Some(kind) = kind_of(*number) else {
         return Err(Reason::Malformed);
     };
-    if id.len() < 1 || id.len() > 64 {
+    if id.len() < 1 || id.len() > LONGEST_ID {
         return Err(Reason::Malformed);
     }
     Ok(Field::Module {

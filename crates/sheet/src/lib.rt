@@ -4,4 +4,5 @@ pub mod field;
 mod names;
 mod progress;
 
+pub use checks::MOST_BYTES;
 pub use checks::open;

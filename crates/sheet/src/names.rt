@@ -13,6 +13,7 @@ use super::field::read_field;
 use super::field::sheet_fault;
 use graph::fault::Fault;
 use graph::fault::Reason;
+use graph::limits::MOST_NAMES;
 
 // The names at the head of a sheet: how many, and where they end.
 #[derive(Clone, Copy)]
@@ -68,7 +69,7 @@ pub fn read_names(bytes: &[u8]) -> Result<Names, Fault>
             }
             earlier = other.next;
         }
-        if count >= 1024 {
+        if count >= MOST_NAMES {
             return Err(sheet_fault(Reason::OverLimit, at));
         }
         at = read.next;

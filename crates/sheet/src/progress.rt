@@ -1,4 +1,5 @@
 ghost use Prim.Native.Nat.{_≤_};
+use graph::limits::MOST_MODULES;
 use graph::records::Kind;
 
 // What the fields before `at` have come to.
@@ -13,6 +14,6 @@ pub struct Progress {
     // where the records of the latest module begin
     pub own: usize,
     // of the modules so far
-    pub kinds: [Kind; 256],
+    pub kinds: [Kind; MOST_MODULES],
     ghost few: { modules ≤ 256 },
 }

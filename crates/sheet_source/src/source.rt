@@ -291,3 +291,66 @@ pub impl ModuleSource for Sheet<'_> as SheetSource {
         import_of_symbol(self.bytes, m, s)
     }
 }
+
+#[cfg(test)]
+mod tests {
+    use super::*;
+    use graph::records::ExportDebug;
+    use graph::records::ExportPartialEq;
+    use graph::records::ImportDebug;
+    use graph::records::ImportPartialEq;
+    use graph::records::KindDebug;
+    use graph::records::KindPartialEq;
+    use graph::records::Wanted;
+    use std::test::*;
+
+    // Module 0 imports name 1 of module 1, which has two star records; modules 2 and 3 export name 1.
+    const SAMPLE: &[u8] = b"\x01\x00\x07default\x01\x00\x01x\
+        \x02\x00\x02\x00a\x04\x00\x06\x00\x05\x00\x01\x00\x01\
+        \x02\x00\x02\x00b\x03\x00\x02\x00\x02\x03\x00\x02\x00\x03\
+        \x02\x00\x02\x00c\x05\x00\x04\x00\x01\x00\x07\
+        \x02\x00\x02\x00d\x05\x00\x04\x00\x01\x00\x09\
+        \x02\x00\x02\x01e";
+
+    #[test]
+    fn answers_from_its_graph() -> Result<(), Fail> {
+        let sheet = Sheet::of(SAMPLE);
+        let import = Import {
+            owner: 0,
+            symbol: 5,
+            target: 1,
+            wanted: Wanted::Name(1),
+        };
+        let export = Export {
+            owner: 3,
+            name: 1,
+            symbol: 9,
+        };
+        check_eq(sheet.module_count(), 5)?;
+        check_eq(sheet.import_count(), 1)?;
+        check_eq(sheet.kind(4), Some(Kind::External))?;
+        check_eq(sheet.star(1, 1), Some(3))?;
+        check_eq(sheet.export(3, 0), Some(export))?;
+        check_eq(sheet.import(0), Some(import))?;
+        check_eq(sheet.exported_symbol(2, 1), Some(7))?;
+        check_eq(sheet.import_behind(0, 5), Some(import))
+    }
+
+    #[test]
+    fn answers_none_outside_its_graph() -> Result<(), Fail> {
+        let sheet = Sheet::of(SAMPLE);
+        check_eq(sheet.kind(5), None)?;
+        check_eq(sheet.star(1, 2), None)?;
+        check_eq(sheet.export(1, 0), None)?;
+        check_eq(sheet.import(1), None)?;
+        check_eq(sheet.exported_symbol(1, 1), None)?;
+        check_eq(sheet.import_behind(1, 5), None)
+    }
+
+    #[test]
+    fn refused_bytes_have_no_module() -> Result<(), Fail> {
+        let sheet = Sheet::of(b"\x02\x00\x02\x00a");
+        check_eq(sheet.module_count(), 0)?;
+        check_eq(sheet.kind(0), None)
+    }
+}

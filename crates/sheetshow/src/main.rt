@@ -1,5 +1,6 @@
 // Shows what stands on the sheet that comes on standard input, or why the sheet is refused.
 use graph::fault::FaultDisplay;
+use sheet::MOST_BYTES;
 use sheet_text::failure::Failure;
 use sheet_text::show::show;
 use std::alloc::Global;
@@ -8,7 +9,7 @@ use std::io::ErrorKind;
 use std::io::Read;
 
 // One byte more than a sheet may have, so that a longer input is seen to be too long.
-const MOST: u64 = 60001;
+const MOST: u64 = MOST_BYTES as u64 + 1;
 
 fn read_sheet(rt: &LibcRuntime, heap: Global) -> io::Result<Vec<u8>> {
     let mut bytes = Vec::new(heap);

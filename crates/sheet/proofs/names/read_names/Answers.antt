@@ -42,12 +42,12 @@ loop-earlier-again c =
     let other = sym (name-test (c .in-Continue-other .other .field) (c .in-Name .name .now) (found .0) entry) ∙ sym (c .if-is-name .ensures tt) in
     (c .loop-earlier .inv .0, found .1, c .loop-earlier .inv .2, c .loop-earlier .inv .3, c .loop-earlier .inv .4, rw (read .1) (found .4), listed-on (c .loop-earlier .inv .0) (c .in-Name .name .now) (found .2) (c .loop-earlier .inv .6) other)
 
-pub returns-then-count-ge1024 : need.returns-then-count-ge1024
-returns-then-count-ge1024 c =
+pub returns-then-count-ge-MOST-NAMES : need.returns-then-count-ge-MOST-NAMES
+returns-then-count-ge-MOST-NAMES c =
     let read : field-at (c .args .bytes .now) (c .names .at) ≡ Ok (a-name (c .in-Name .name .now)) = c .in-Continue-read .ensures tt .0 ∙ ap (λ f. Ok (entry-of f)) (c .in-Name .is) in
     let none = no-earlier _ _ _ _ (c .loop-earlier .inv .5) (c .loop-earlier-test .left) in
     let many : 1024 ≤ length (c .loop-earlier .inv .0) = omega arith in
-    limit-refused (c .loop-earlier .inv .2) (c .names-test .taken) read (rw (c .loop-earlier .inv .3) (sym (c .if-is-wrong-first .ensures tt))) (sym (c .loop-earlier .inv .6) ∙ ap (listed (c .in-Name .name .now)) none) many ∙ ap (λ f. Err f) (sym (c .sheet-fault-then-count-ge1024 .ensures))
+    limit-refused (c .loop-earlier .inv .2) (c .names-test .taken) read (rw (c .loop-earlier .inv .3) (sym (c .if-is-wrong-first .ensures tt))) (sym (c .loop-earlier .inv .6) ∙ ap (listed (c .in-Name .name .now)) none) many ∙ ap (λ f. Err f) (sym (c .sheet-fault-then-count-ge-MOST-NAMES .ensures))
 
 pub names-again : need.names-again
 names-again c =
