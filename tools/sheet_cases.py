@@ -32,7 +32,8 @@ The total length comes first, then field by field, and for one field the smalles
 Behind the last field comes the missing name, and then, again in order of the fields, the
 targets of star records and imports: 15, and for a star record 17.
 
-`opened` is a model of these rules, written from them and not from the program. The answers
+`opened` is a model of these rules, written from them; its author had seen two functions of
+the program, `open` and `check_targets`, and no other part of it. The answers
 of the cases written by hand are written by hand too, and the model is held to them.
 """
 
