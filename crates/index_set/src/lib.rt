@@ -36,7 +36,7 @@ impl Same for u16 {
 
 // The first place whose element is the same as `x`.
 pub fn find<T: Same>(xs: &[T], x: &T) -> Option<usize>
-    ensures { FirstSame same xs.now x.now result }
+    ensures { FirstSame T.same xs.now x.now result }
 {
     for (i, y) in xs.iter().enumerate() {
         if y.same_as(x) {
@@ -71,7 +71,7 @@ impl<'a, T: Same + Copy> IndexSet<'a, T> {
         ensures elements { elements result ≡ [] }
         ensures places { result.places.now ≡ places.old }
         ensures lender { result.places.ghost_name ≡ places.entry.ghost_name }
-        ensures distinct { Distinct same (elements result) }
+        ensures distinct { Distinct T.same (elements result) }
     {
         IndexSet { places, len: 0 }
     }
@@ -93,20 +93,20 @@ impl<'a, T: Same + Copy> IndexSet<'a, T> {
 
     // The first place whose element is the same as `x`: the only one, where the elements are distinct.
     pub fn place_of(&self, x: &T) -> Option<usize>
-        ensures first { FirstSame same (elements self.now) x.now result }
-        ensures only { Distinct same (elements self.now) → OnlyPlace same (elements self.now) x.now result }
+        ensures first { FirstSame T.same (elements self.now) x.now result }
+        ensures only { Distinct T.same (elements self.now) → OnlyPlace T.same (elements self.now) x.now result }
     {
         find(self.elements(), x)
     }
 
     // Adds `x` behind the elements, unless one is the same or every place is taken: then nothing changes.
     pub fn add(&mut self, x: T) -> Added
-        ensures adds { Adds same (length self.old.places.now) (elements self.old) x result (elements self.new) }
+        ensures adds { Adds T.same (length self.old.places.now) (elements self.old) x result (elements self.new) }
         ensures places { self.new.places.now ≡ written self.old.places.now x result }
         ensures lender { self.new.places.ghost_name ≡ self.old.places.ghost_name }
         ensures room { length self.new.places.now ≡ length self.old.places.now }
-        ensures holds { (result ≢ Added.Full) → held same x (elements self.new) ≡ true }
-        ensures distinct { Distinct same (elements self.old) → Distinct same (elements self.new) }
+        ensures holds { (result ≢ Added.Full) → held T.same x (elements self.new) ≡ true }
+        ensures distinct { Distinct T.same (elements self.old) → Distinct T.same (elements self.new) }
     {
         let used = self.len();
         let added = put(self.places, used, x);
@@ -120,7 +120,7 @@ impl<'a, T: Same + Copy> IndexSet<'a, T> {
 // Writes `x` behind the first `used` places, unless one of them holds the same or every place is taken: then nothing changes.
 fn put<T: Same + Copy>(places: &mut [T], used: usize, x: T) -> Added
     requires { used ≤ length places.old }
-    ensures answer { Puts same places.old used x result }
+    ensures answer { Puts T.same places.old used x result }
     ensures places { places.new ≡ written places.old x result }
 {
     if let Some(i) = find(&places[0..used], &x) {

@@ -16,12 +16,12 @@ returns-in-New g c =
     let distinct = adds_distinct same _ _ _ x g.met.T.Same.symmetric r adds in
     search rules
 
-pub returns-in-default : goal.returns-in-default
-returns-in-default g c =
+pub returns-in_default : goal.returns-in_default
+returns-in_default g c =
     let same = g.T.Same.same in
     let x = c.args.x in
     let r = c.put-added.result in
-    let adds = puts_nothing same c.args.self.now.places.now c.put-added.new.places c.args.self.now.len c.len-used.result x c.len-used.ensures r c.in-default.not-New c.put-added.ensures.answer c.put-added.ensures.places in
+    let adds = puts_nothing same c.args.self.now.places.now c.put-added.new.places c.args.self.now.len c.len-used.result x c.len-used.ensures r c.in_default.not-New c.put-added.ensures.answer c.put-added.ensures.places in
     let holds = adds_held same _ _ _ x (g.met.T.Same.reflexive x) r adds in
     let distinct = adds_distinct same _ _ _ x g.met.T.Same.symmetric r adds in
     search rules

@@ -6,14 +6,14 @@ use Rattle.sheet.proofs.Soundly.{opened_sound}
 use Rattle.sheet.proofs.Firstly.{first_from_opened}
 use Rattle.sheet.proofs.checks.open.Goals as goal
 
-pub returns-in-err-check-length : goal.returns-in-err-check-length
-returns-in-err-check-length c = record { opens = search rules; first = first_from_opened c.args.bytes.now _ (search rules) }
+pub returns-in_err-check_length : goal.returns-in_err-check_length
+returns-in_err-check_length c = record { opens = search rules; first = first_from_opened c.args.bytes.now _ (search rules) }
 
-pub returns-in-err-names : goal.returns-in-err-names
-returns-in-err-names c = record { opens = search rules; first = first_from_opened c.args.bytes.now _ (search rules) }
+pub returns-in_err-names : goal.returns-in_err-names
+returns-in_err-names c = record { opens = search rules; first = first_from_opened c.args.bytes.now _ (search rules) }
 
-pub returns-in-err-progress : goal.returns-in-err-progress
-returns-in-err-progress c = record { opens = search rules; first = first_from_opened c.args.bytes.now _ (search rules) }
+pub returns-in_err-progress : goal.returns-in_err-progress
+returns-in_err-progress c = record { opens = search rules; first = first_from_opened c.args.bytes.now _ (search rules) }
 
 pub returns : goal.returns
 returns c =

@@ -5,11 +5,11 @@ use Rattle.sheet.proofs.Reading.{field_there}
 use Rattle.sheet.proofs.field.read_field.Goals as goal
 
 pub returns-in-Ok : goal.returns-in-Ok
-returns-in-Ok c = (field_there c.args.bytes.now c.args.at c.from-size.result (c.from-size.ensures ∙ c.two-bytes.ensures) (omega arith) ∙ sym c.in-Ok.ensures.content, omega arith, omega arith, c.in-Ok.ensures.begins)
+returns-in-Ok c = (field_there c.args.bytes.now c.args.at c.from-size.result (c.from-size.ensures ∙ c.two_bytes.ensures) (omega arith) ∙ sym c.in-Ok.ensures.content, omega arith, omega arith, c.in-Ok.ensures.begins)
 
 pub returns-in-Err : goal.returns-in-Err
 returns-in-Err c =
-    let told = c.sheet-fault-in-Err.ensures in (
-      field_there c.args.bytes.now c.args.at c.from-size.result (c.from-size.ensures ∙ c.two-bytes.ensures) (omega arith) ∙ sym c.in-Err.ensures.content ∙ ap (λ (f : Fault). Err f.reason) (sym told),
+    let told = c.sheet_fault-in-Err.ensures in (
+      field_there c.args.bytes.now c.args.at c.from-size.result (c.from-size.ensures ∙ c.two_bytes.ensures) (omega arith) ∙ sym c.in-Err.ensures.content ∙ ap (λ (f : Fault). Err f.reason) (sym told),
       told ∙ ap (λ (f : Fault). fault_at f.reason c.args.at) (sym told),
     )

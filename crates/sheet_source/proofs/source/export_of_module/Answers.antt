@@ -4,11 +4,11 @@ use Rattle.sheet_source.proofs.Choosing.{bound}
 use Rattle.sheet_source.proofs.Answering.{sheet_short, export_answer}
 use Rattle.sheet_source.proofs.source.export_of_module.Goals as goal
 
-pub nth-record-requires : goal.nth-record-requires
-nth-record-requires c = sheet_short c.args.bytes.now c.requires
+pub nth_record-requires : goal.nth_record-requires
+nth_record-requires c = sheet_short c.args.bytes.now c.requires
 
-pub returns-in-default : goal.returns-in-default
-returns-in-default c = ap (λ o. bound o (λ (x : Owned). entry_export x.owner x.entry)) c.in-default.ensures ∙ export_answer c.args.bytes.now c.requires c.args.m c.args.k
+pub returns-in_default : goal.returns-in_default
+returns-in_default c = ap (λ o. bound o (λ (x : Owned). entry_export x.owner x.entry)) c.in_default.ensures ∙ export_answer c.args.bytes.now c.requires c.args.m c.args.k
 
 pub returns : goal.returns
-returns c = c.export-in.ensures ∙ ap (λ o. bound o (λ (x : Owned). entry_export x.owner x.entry)) c.in-Some.ensures ∙ export_answer c.args.bytes.now c.requires c.args.m c.args.k
+returns c = c.export_in.ensures ∙ ap (λ o. bound o (λ (x : Owned). entry_export x.owner x.entry)) c.in-Some.ensures ∙ export_answer c.args.bytes.now c.requires c.args.m c.args.k

@@ -5,14 +5,14 @@ use Rattle.sheet_source.proofs.Choosing.{bound}
 use Rattle.sheet_source.proofs.Answering.{sheet_short, symbol_of, symbol_answer}
 use Rattle.sheet_source.proofs.source.symbol_under.Goals as goal
 
-pub nth-record-requires : goal.nth-record-requires
-nth-record-requires c = sheet_short c.args.bytes.now c.requires
+pub nth_record-requires : goal.nth_record-requires
+nth_record-requires c = sheet_short c.args.bytes.now c.requires
 
-pub returns-in-default : goal.returns-in-default
-returns-in-default c = ap (λ o. bound o (λ (x : Owned). option_map symbol_of (entry_export x.owner x.entry))) c.in-default.ensures ∙ symbol_answer c.args.bytes.now c.requires c.args.m c.args.n
+pub returns-in_default : goal.returns-in_default
+returns-in_default c = ap (λ o. bound o (λ (x : Owned). option_map symbol_of (entry_export x.owner x.entry))) c.in_default.ensures ∙ symbol_answer c.args.bytes.now c.requires c.args.m c.args.n
 
-pub returns-in-default-export-in : goal.returns-in-default-export-in
-returns-in-default-export-in c = ap (option_map symbol_of) c.in-default-export-in.ensures ∙ ap (λ o. bound o (λ (x : Owned). option_map symbol_of (entry_export x.owner x.entry))) c.in-Some.ensures ∙ symbol_answer c.args.bytes.now c.requires c.args.m c.args.n
+pub returns-in_default-export_in : goal.returns-in_default-export_in
+returns-in_default-export_in c = ap (option_map symbol_of) c.in_default-export_in.ensures ∙ ap (λ o. bound o (λ (x : Owned). option_map symbol_of (entry_export x.owner x.entry))) c.in-Some.ensures ∙ symbol_answer c.args.bytes.now c.requires c.args.m c.args.n
 
 pub returns : goal.returns
-returns c = ap (option_map symbol_of) c.in-Some-export-in.ensures ∙ ap (λ o. bound o (λ (x : Owned). option_map symbol_of (entry_export x.owner x.entry))) c.in-Some.ensures ∙ symbol_answer c.args.bytes.now c.requires c.args.m c.args.n
+returns c = ap (option_map symbol_of) c.in-Some-export_in.ensures ∙ ap (λ o. bound o (λ (x : Owned). option_map symbol_of (entry_export x.owner x.entry))) c.in-Some.ensures ∙ symbol_answer c.args.bytes.now c.requires c.args.m c.args.n

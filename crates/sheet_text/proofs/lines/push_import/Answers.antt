@@ -4,6 +4,6 @@ use Rattle.sheet_text.proofs.lines.push_import.Goals as goal
 
 pub returns : goal.returns
 returns c =
-    behind c.push-text.result (string_bytes c.args.out.now) _ _ _
-    (behind {E = Unit {0}} (Ok tt) (string_bytes c.args.out.now) _ _ _ c.in-ok-push-heading.ensures c.in-ok-push-wanted.ensures)
-    c.push-text.ensures
+    behind c.push_text.result (string_bytes c.args.out.now) _ _ _
+    (behind {E = Unit {0}} (Ok tt) (string_bytes c.args.out.now) _ _ _ c.in_ok-push_heading.ensures c.in_ok-push_wanted.ensures)
+    c.push_text.ensures

@@ -3,4 +3,4 @@ use Rattle.sheet_text.proofs.Appending.{behind}
 use Rattle.sheet_text.proofs.lines.push_star.Goals as goal
 
 pub returns : goal.returns
-returns c = behind c.push-text.result (string_bytes c.args.out.now) _ _ _ c.in-ok-push-heading.ensures c.push-text.ensures
+returns c = behind c.push_text.result (string_bytes c.args.out.now) _ _ _ c.in_ok-push_heading.ensures c.push_text.ensures

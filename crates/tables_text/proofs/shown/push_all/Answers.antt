@@ -12,7 +12,7 @@ loop-row-preserved g c = λ es few shows.
     let so = c.loop-row.invariant es few shows in
     let inside : i < length rows = omega arith in
     let fits : length (es ++ map f (take i rows)) < 2 ^ 64 - 1 = omega (arith, length-append es (map f (take i rows)), length-map (take i rows) f, length-take-le i rows (omega arith)) in
-    let pushed = c.in-ok-push.ensures (es ++ map f (take i rows)) fits so in
+    let pushed = c.in_ok-push.ensures (es ++ map f (take i rows)) fits so in
     subst (Shows c.push.new.self) (
     append_assoc es (map f (take i rows)) _
     ∙ ap (λ e. es ++ (map f (take i rows) ++ (e ∷ []))) (c.field.ensures ∙ ap f c.row-item.is)

@@ -15,14 +15,14 @@ pub returns-in-Import : goal.returns-in-Import
 returns-in-Import c =
     let is = ap entry_of c.in-Import.is in
     record {
-      first = λ g standing _. c.owned-refusal-in-Import.ensures ∙ import_refusal c.args.bytes.now c.args.self.now (entry_of c.args.field) c.is-unknown-unknown.result c.clashes-in-twice.result c.clashes-in-twice.ensures g standing c.in-Import.symbol c.in-Import.target c.in-Import.wanted is c.is-unknown-unknown.ensures;
-      roomy = λ none. import_room c.args.bytes.now c.args.self.now (entry_of c.args.field) c.is-unknown-unknown.result c.clashes-in-twice.result c.clashes-in-twice.ensures c.in-Import.symbol c.in-Import.target c.in-Import.wanted is (sym c.owned-refusal-in-Import.ensures ∙ none);
+      first = λ g standing _. c.owned_refusal-in-Import.ensures ∙ import_refusal c.args.bytes.now c.args.self.now (entry_of c.args.field) c.is_unknown-unknown.result c.clashes_in-twice.result c.clashes_in-twice.ensures g standing c.in-Import.symbol c.in-Import.target c.in-Import.wanted is c.is_unknown-unknown.ensures;
+      roomy = λ none. import_room c.args.bytes.now c.args.self.now (entry_of c.args.field) c.is_unknown-unknown.result c.clashes_in-twice.result c.clashes_in-twice.ensures c.in-Import.symbol c.in-Import.target c.in-Import.wanted is (sym c.owned_refusal-in-Import.ensures ∙ none);
     }
 
 pub returns-in-Export : goal.returns-in-Export
 returns-in-Export c =
     let is = ap entry_of c.in-Export.is in
     record {
-      first = λ g standing _. c.owned-refusal-in-Export.ensures ∙ export_refusal c.args.bytes.now c.args.self.now (entry_of c.args.field) _ c.clashes-in-twice-in-Export.result c.clashes-in-twice-in-Export.ensures g standing c.in-Export.name c.in-Export.symbol is (ap (leb c.args.self.now.names) c.from.ensures);
-      roomy = λ none. export_room c.args.bytes.now c.args.self.now (entry_of c.args.field) (leb c.args.self.now.names c.from.result) c.clashes-in-twice-in-Export.result c.clashes-in-twice-in-Export.ensures c.in-Export.name c.in-Export.symbol is (sym c.owned-refusal-in-Export.ensures ∙ none);
+      first = λ g standing _. c.owned_refusal-in-Export.ensures ∙ export_refusal c.args.bytes.now c.args.self.now (entry_of c.args.field) _ c.clashes_in-twice-in-Export.result c.clashes_in-twice-in-Export.ensures g standing c.in-Export.name c.in-Export.symbol is (ap (leb c.args.self.now.names) c.from.ensures);
+      roomy = λ none. export_room c.args.bytes.now c.args.self.now (entry_of c.args.field) (leb c.args.self.now.names c.from.result) c.clashes_in-twice-in-Export.result c.clashes_in-twice-in-Export.ensures c.in-Export.name c.in-Export.symbol is (sym c.owned_refusal-in-Export.ensures ∙ none);
     }

@@ -5,14 +5,14 @@ use Rattle.tables.specs.Spans.{bytes_in}
 use Rattle.tables.proofs.Refused.{module_refused}
 use Rattle.tables.proofs.rows.ModuleRowRow.refusal.Goals as goal
 
-pub returns-then-before-ge-MOST-MODULES : goal.returns-then-before-ge-MOST-MODULES
-returns-then-before-ge-MOST-MODULES c = λ first passed.
+pub returns-then-before-ge-MOST_MODULES : goal.returns-then-before-ge-MOST_MODULES
+returns-then-before-ge-MOST_MODULES c = λ first passed.
     let size = ap length c.bytes-id.ensures in
-    sym (module_refused (held c.args.lists) c.args.before.now c.args.self.now c.in-Some.field-0 c.if-not-is-inside.ensures (omega arith) (omega arith) c.in-Some.ensures
-    ∙ cond-true _ _ _ (le-leb 256 (length c.args.before.now) c.if-before-ge-MOST-MODULES.true))
+    sym (module_refused (held c.args.lists) c.args.before.now c.args.self.now c.in-Some.field-0 c.if-not-is_inside.ensures (omega arith) (omega arith) c.in-Some.ensures
+    ∙ cond-true _ _ _ (le-leb 256 (length c.args.before.now) c.if-before-ge-MOST_MODULES.true))
 
 pub returns : goal.returns
 returns c = λ first passed.
     let size = ap length c.bytes-id.ensures in
-    sym (module_refused (held c.args.lists) c.args.before.now c.args.self.now c.in-Some.field-0 c.if-not-is-inside.ensures (omega arith) (omega arith) c.in-Some.ensures
-    ∙ cond-false _ _ _ (lt-leb 256 (length c.args.before.now) c.if-before-ge-MOST-MODULES.false))
+    sym (module_refused (held c.args.lists) c.args.before.now c.args.self.now c.in-Some.field-0 c.if-not-is_inside.ensures (omega arith) (omega arith) c.in-Some.ensures
+    ∙ cond-false _ _ _ (lt-leb 256 (length c.args.before.now) c.if-before-ge-MOST_MODULES.false))
