@@ -12,7 +12,7 @@ use std::fmt;
 
 // Writes `text` behind what `out` has, which fails for want of memory alone.
 fn push_text<D: fmt::Display + Drop>(out: &mut String, text: D) -> Result<(), AllocError>
-    ensures { OnOk result (IfSome (output text) (λ bs. string_bytes out.new ≡ string_bytes out.old ++ bs)) }
+    ensures { OnOk result (IfSome (D.output text) (λ bs. string_bytes out.new ≡ string_bytes out.old ++ bs)) }
 {
     match write!(out, "{text}") {
         Ok(()) => Ok(()),

@@ -2,4 +2,4 @@ use Rattle.std.proofs.Common.{rules}
 use Rattle.sheet_text.proofs.lines.push_heading.Goals as goal
 
 pub returns : goal.returns
-returns c = simp (← c.saturating-sub-owner.ensures) (search rules)
+returns c = simp (← c.saturating_sub-owner.ensures) (search rules)
