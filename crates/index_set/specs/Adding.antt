@@ -1,4 +1,4 @@
-use Rattle.std.specs.Prelude.{◌≡◌, ℕ, ◌<◌, Bool, true, false, List, [], ◌∷◌, ◌++◌, length, take, set, Some, None, slice_set}
+use Rattle.std.specs.Prelude.{◌≡◌, ℕ, ◌<◌, Bool, true, false, List, [], ◌∷◌, ◌++◌, length, take, Some, None, slice_set}
 use Rattle.index_set.specs.Sameness.{held, FirstSame}
 use Rattle.index_set.specs.declared.Added.{Added}
 use Rattle.index_set.specs.declared.Added.TheVariants.{New, Present, Full}

@@ -1,3 +1,5 @@
+#![tactic(auto)]
+
 ghost use Rattle.std.specs.Prelude.{◌≡◌, ◌≤◌, Bool, true, [], length, ◌≢◌, nat_eq};
 ghost use Rattle.index_set.specs.Adding.{Adds, Puts, written};
 ghost use Rattle.index_set.specs.Elements.{elements};
@@ -145,7 +147,7 @@ mod tests {
         assert_eq!(rt; set.add(5), Added::New(1));
         assert_eq!(rt; set.add(7), Added::Present(0));
         assert_eq!(rt; set.place_of(&5), Some(1));
-        assert_eq!(rt; set.elements(), &[7, 5]);
+        assert_eq!(rt; set.elements(), [7, 5].as_slice());
     }
 
     #[test]
@@ -157,7 +159,7 @@ mod tests {
         }
         assert_eq!(rt; set.add(4), Added::Full);
         assert_eq!(rt; set.add(3), Added::Present(2));
-        assert_eq!(rt; set.elements(), &[1, 2, 3]);
+        assert_eq!(rt; set.elements(), [1, 2, 3].as_slice());
     }
 
     #[test]

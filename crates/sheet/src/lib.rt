@@ -1,4 +1,6 @@
 // Sheets: a module graph written as a run of tagged fields.
+#![tactic(auto)]
+
 mod checks;
 pub mod field;
 mod names;

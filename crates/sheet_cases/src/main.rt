@@ -1,5 +1,7 @@
 // Opens each sheet of a list from standard input, and tells which answers are not the
 // expected ones. tools/sheet_cases.py writes the list and says how a line reads.
+#![tactic(auto)]
+
 ghost use Rattle.std.specs.Prelude.{◌<◌, IfOk};
 
 use anyhow::anyhow;

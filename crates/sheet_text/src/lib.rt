@@ -1,4 +1,6 @@
 // The readable text of a sheet: a summary, and a line for each record.
+#![tactic(auto)]
+
 mod counts;
 mod escape;
 pub mod failure;

@@ -1,4 +1,6 @@
 // Shows what stands on the sheet that comes on standard input, or why the sheet is refused.
+#![tactic(auto)]
+
 use sheet::MOST_BYTES;
 use sheet_text::failure::Failure;
 use sheet_text::show::show;
