@@ -1,6 +1,6 @@
 -- Look-ups for the first element that passes a test.
 use Rattle.std.proofs.Common.{◌≡◌, ℕ, ◌<◌, Bool, true, false, cond, ◌&&◌, ◌||◌, eqb, List, [], ◌∷◌, ◌++◌, is_some, Some, None, Option, sym, refl, ap, ◌∙◌, arith}
-use Rattle.std.specs.List.{AllByRecursion as All}
+use Rattle.std.specs.List.{AllByRecursion}
 use Rattle.std.proofs.ByRecursion.{All-weaker}
 use Rattle.std.proofs.lemmas.Bool.{and_left, ne_eqb, eq-eqb}
 use Rattle.graph.specs.declared.records.Export.{Export}
@@ -31,7 +31,7 @@ module _ {X Y : Type 0} (F : List X → Option Y) (test : X → Bool) (f : X →
       ∙ sym (ap (λ b. b || test x) (some_told (test y) (f y) (F ys)))
       ∙ sym (ap (λ o. is_some o || test x) (step y ys))
 
-  pub found_none : (xs : List X) → All (λ x. test x ≡ false) xs → F xs ≡ None
+  pub found_none : (xs : List X) → AllByRecursion (λ x. test x ≡ false) xs → F xs ≡ None
   found_none [] all = none
   found_none (x ∷ xs) all = step x xs ∙ ap (λ b. cond b (Some (f x)) (F xs)) all.0 ∙ found_none xs all.1
 
@@ -47,8 +47,8 @@ import_push is m s i e =
     ∙ ap (λ b. is_some (import_in is m s) || (b && eqb i.symbol s)) (eq-eqb i.owner m e)
 
 -- a module behind all owners has none of them
-pub symbol_none : (es : List Export) (m n : ℕ) → All (λ (e : Export). e.owner < m) es → symbol_in es m n ≡ None
+pub symbol_none : (es : List Export) (m n : ℕ) → AllByRecursion (λ (e : Export). e.owner < m) es → symbol_in es m n ≡ None
 symbol_none es m n below = found_none (λ l. symbol_in l m n) (λ (e : Export). eqb e.owner m && eqb e.name n) (λ (e : Export). e.symbol) refl (λ _ _. refl) es (All-weaker (λ (e : Export). e.owner < m) (λ (e : Export). (eqb e.owner m && eqb e.name n) ≡ false) (λ e h. and_left (eqb e.owner m) (eqb e.name n) (ne_eqb e.owner m (λ same. omega arith))) es below)
 
-pub import_none : (is : List Import) (m s : ℕ) → All (λ (i : Import). i.owner < m) is → import_in is m s ≡ None
+pub import_none : (is : List Import) (m s : ℕ) → AllByRecursion (λ (i : Import). i.owner < m) is → import_in is m s ≡ None
 import_none is m s below = found_none (λ l. import_in l m s) (λ (i : Import). eqb i.owner m && eqb i.symbol s) (λ i. i) refl (λ _ _. refl) is (All-weaker (λ (i : Import). i.owner < m) (λ (i : Import). (eqb i.owner m && eqb i.symbol s) ≡ false) (λ i h. and_left (eqb i.owner m) (eqb i.symbol s) (ne_eqb i.owner m (λ e. omega arith))) is below)

@@ -1,6 +1,6 @@
 -- One record more: a graph that breaks no rule breaks none behind a record that passes the rules.
 use Rattle.std.proofs.Common.{◌≡◌, ℕ, zero, suc, ◌+◌, ◌<◌, ◌≤◌, Bool, true, false, cond, not, ◌&&◌, eqb, leb, List, [], ◌∷◌, ◌++◌, length, is_some, Some, None, Ok, Option, Result, sym, refl, ap, ◌∙◌, arith}
-use Rattle.std.specs.List.{slice_get, AllByRecursion as All}
+use Rattle.std.specs.List.{slice_get, AllByRecursion}
 use Rattle.std.specs.Str.{bytes_eq}
 use Rattle.std.proofs.ByRecursion.{All-push, All-weaker}
 use Rattle.std.proofs.lemmas.Slice.Eq.{bytes_eq-Decides}
@@ -24,15 +24,15 @@ use Rattle.graph.specs.Rules.{sized, listed, wrong_name, misnamed, over_limit, w
 use Rattle.graph.specs.Soundness.{Pairwise, Sized, EsModule, NotExternal, Known, OtherExport, OtherImport, Sound}
 
 -- what goes from a list to its first element and the rest holds of each element
-pub all_by_steps : {X : Type 0} (P : List X → Type 0) (Q : X → Type 0) → ((x : X) (xs : List X) → P (x ∷ xs) → Q x × P xs) → (xs : List X) → P xs → All Q xs
+pub all_by_steps : {X : Type 0} (P : List X → Type 0) (Q : X → Type 0) → ((x : X) (xs : List X) → P (x ∷ xs) → Q x × P xs) → (xs : List X) → P xs → AllByRecursion Q xs
 all_by_steps P Q step [] h = tt
 all_by_steps P Q step (x ∷ xs) h = let parts = step x xs h in (parts.0, all_by_steps P Q step xs parts.1)
 
-pub all_both : {X : Type 0} (P Q : X → Type 0) (xs : List X) → All P xs → All Q xs → All (λ x. P x × Q x) xs
+pub all_both : {X : Type 0} (P Q : X → Type 0) (xs : List X) → AllByRecursion P xs → AllByRecursion Q xs → AllByRecursion (λ x. P x × Q x) xs
 all_both P Q [] p q = tt
 all_both P Q (x ∷ xs) p q = ((p.0, q.0), all_both P Q xs p.1 q.1)
 
-pub pairwise_push : {X : Type 0} (R : X → X → Type 0) (xs : List X) (x : X) → Pairwise R xs → All (λ y. R y x) xs → Pairwise R (xs ++ (x ∷ []))
+pub pairwise_push : {X : Type 0} (R : X → X → Type 0) (xs : List X) (x : X) → Pairwise R xs → AllByRecursion (λ y. R y x) xs → Pairwise R (xs ++ (x ∷ []))
 pairwise_push R [] x pairs all = (tt, tt)
 pairwise_push R (y ∷ ys) x pairs all = (All-push (R y) ys x pairs.0 all.0, pairwise_push R ys x pairs.1 all.1)
 
@@ -94,11 +94,11 @@ known_wider g h longer Whole known = tt
 -- at most so many elements, each fine, and each standing to each later one as it should
 pub record Listing {X : Type 0} (most : ℕ) (Fine : X → Type 0) (Follows : X → X → Type 0) (xs : List X) : Type 0 where
   pub limit : length xs ≤ most
-  pub each : All Fine xs
+  pub each : AllByRecursion Fine xs
   pub pairs : Pairwise Follows xs
 
 module _ {X : Type 0} {most : ℕ} {Fine : X → Type 0} {Follows : X → X → Type 0} {xs : List X} (listing : Listing most Fine Follows xs) where
-  listing_push : (x : X) → leb most (length xs) ≡ false → Fine x → All (λ y. Follows y x) xs → Listing most Fine Follows (xs ++ (x ∷ []))
+  listing_push : (x : X) → leb most (length xs) ≡ false → Fine x → AllByRecursion (λ y. Follows y x) xs → Listing most Fine Follows (xs ++ (x ∷ []))
   listing_push x room fine behind = record {
     limit = omega (arith, length_push xs x, leb-false most (length xs) room);
     each = All-push Fine xs x listing.each fine;
@@ -154,9 +154,9 @@ Formed (an_export name symbol) = Unit {0}
 abbrev pub Behind : Graph → ℕ → Entry → Type 0
 Behind g owner (a_name bytes) = Unit {0}
 Behind g owner (a_module k id) = Unit {0}
-Behind g owner (a_star target) = All (λ (s : Star). s.owner ≤ owner) g.stars
-Behind g owner (an_import symbol target wanted) = All (λ (i : Import). i.owner ≤ owner) g.imports
-Behind g owner (an_export name symbol) = All (λ (e : Export). e.owner ≤ owner) g.exports
+Behind g owner (a_star target) = AllByRecursion (λ (s : Star). s.owner ≤ owner) g.stars
+Behind g owner (an_import symbol target wanted) = AllByRecursion (λ (i : Import). i.owner ≤ owner) g.imports
+Behind g owner (an_export name symbol) = AllByRecursion (λ (e : Export). e.owner ≤ owner) g.exports
 
 -- a record behind those of g passes every rule
 pub record Passes (whole g : Graph) (owner : ℕ) (e : Entry) : Type 0 where
@@ -180,7 +180,7 @@ begins_push : (names : List (List ℕ)) (bytes : List ℕ) → wrong_name names 
 begins_push [] bytes h begins = (bytes_eq-Decides bytes default_name).0 (not-false _ h)
 begins_push (x ∷ xs) bytes h begins = begins
 
-new_name : (names : List (List ℕ)) (bytes : List ℕ) → wrong_name names bytes ≡ false → All (λ x. x ≡ bytes → ⊥) names
+new_name : (names : List (List ℕ)) (bytes : List ℕ) → wrong_name names bytes ≡ false → AllByRecursion (λ x. x ≡ bytes → ⊥) names
 new_name [] bytes h = tt
 new_name (x ∷ xs) bytes h = all_by_steps (λ names. listed bytes names ≡ false) (λ y. y ≡ bytes → ⊥) (λ y ys k. let parts = or_parts (bytes_eq bytes y) (listed bytes ys) k in ((λ e. not_from_Decides _ (bytes_eq-Decides bytes y) parts.0 (sym e)), parts.1)) (x ∷ xs) h
 
@@ -188,7 +188,7 @@ differs : (a b c d : ℕ) → (eqb a b && eqb c d) ≡ false → a ≡ b → c �
 differs a b c d h p q = grind (arith, nat_tests)
 
 -- where a look-up by an owner and a number finds nothing, each element has another owner or another number
-none_found : {X Y : Type 0} (F : List X → Option Y) (owner number : X → ℕ) (value : X → Y) (m n : ℕ) → ((x : X) (xs : List X) → F (x ∷ xs) ≡ cond (eqb (owner x) m && eqb (number x) n) (Some (value x)) (F xs)) → (xs : List X) → is_some (F xs) ≡ false → All (λ x. owner x ≡ m → number x ≡ n → ⊥) xs
+none_found : {X Y : Type 0} (F : List X → Option Y) (owner number : X → ℕ) (value : X → Y) (m n : ℕ) → ((x : X) (xs : List X) → F (x ∷ xs) ≡ cond (eqb (owner x) m && eqb (number x) n) (Some (value x)) (F xs)) → (xs : List X) → is_some (F xs) ≡ false → AllByRecursion (λ x. owner x ≡ m → number x ≡ n → ⊥) xs
 none_found F owner number value m n step xs h = all_by_steps (λ ys. F ys ≡ None) (λ y. owner y ≡ m → number y ≡ n → ⊥) (λ y ys none. let parts = cond_none _ (value y) (F ys) (sym (step y ys) ∙ none) in (differs (owner y) m (number y) n parts.0, parts.1)) xs (none_is (F xs) h)
 
 pub so_far_push : (whole g : Graph) (owner : ℕ) (e : Entry) → SoFar whole g → Passes whole g owner e → SoFar whole (grown g owner e)

@@ -1,6 +1,6 @@
 -- What is known of every graph that opens.
 use Rattle.std.specs.Prelude.{◌≡◌, ℕ, ◌<◌, ◌≤◌, List, [], ◌∷◌, length, Some, ◌≢◌}
-use Rattle.std.specs.List.{slice_get, AllByRecursion as All}
+use Rattle.std.specs.List.{slice_get, AllByRecursion}
 use Rattle.graph.specs.declared.records.Kind.TheVariants as kind
 use Rattle.graph.specs.declared.records.Wanted.{Wanted}
 use Rattle.graph.specs.declared.records.Wanted.TheVariants.{Name, Whole}
@@ -13,7 +13,7 @@ use Rattle.graph.specs.Lookups.{kind_in}
 -- each element stands to each later one as R says
 abbrev pub Pairwise : {X : Type 0} → (X → X → Type 0) → List X → Type 0
 Pairwise R [] = Unit {0}
-Pairwise R (x ∷ xs) = All (R x) xs × Pairwise R xs
+Pairwise R (x ∷ xs) = AllByRecursion (R x) xs × Pairwise R xs
 
 -- between low and high bytes
 abbrev pub Sized : ℕ → ℕ → List ℕ → Type 0
@@ -44,8 +44,8 @@ OtherImport a b = a.owner ≡ b.owner → a.symbol ≢ b.symbol
 
 pub record Sound (g : Graph) : Type 0 where
   -- sizes and limits
-  pub name_sizes : All (Sized 1 255) g.names
-  pub id_sizes : All (λ (m : Module). Sized 1 64 m.id) g.modules
+  pub name_sizes : AllByRecursion (Sized 1 255) g.names
+  pub id_sizes : AllByRecursion (λ (m : Module). Sized 1 64 m.id) g.modules
   pub name_limit : length g.names ≤ 1024
   pub module_limit : length g.modules ≤ 256
   pub star_limit : length g.stars ≤ 1024
@@ -59,14 +59,14 @@ pub record Sound (g : Graph) : Type 0 where
   pub imports_rise : Rising (λ (i : Import). i.owner) g.imports
   pub exports_rise : Rising (λ (e : Export). e.owner) g.exports
   -- only ES modules own records
-  pub star_owners : All (λ (s : Star). EsModule g s.owner) g.stars
-  pub import_owners : All (λ (i : Import). EsModule g i.owner) g.imports
-  pub export_owners : All (λ (e : Export). EsModule g e.owner) g.exports
+  pub star_owners : AllByRecursion (λ (s : Star). EsModule g s.owner) g.stars
+  pub import_owners : AllByRecursion (λ (i : Import). EsModule g i.owner) g.imports
+  pub export_owners : AllByRecursion (λ (e : Export). EsModule g e.owner) g.exports
   -- each number has its record, and no star record aims at an external module
-  pub star_targets : All (λ (s : Star). NotExternal g s.target) g.stars
-  pub import_targets : All (λ (i : Import). i.target < length g.modules) g.imports
-  pub import_names : All (λ (i : Import). Known g i.wanted) g.imports
-  pub export_names : All (λ (e : Export). e.name < length g.names) g.exports
+  pub star_targets : AllByRecursion (λ (s : Star). NotExternal g s.target) g.stars
+  pub import_targets : AllByRecursion (λ (i : Import). i.target < length g.modules) g.imports
+  pub import_names : AllByRecursion (λ (i : Import). Known g i.wanted) g.imports
+  pub export_names : AllByRecursion (λ (e : Export). e.name < length g.names) g.exports
   -- a module exports a name once, and has one import of a symbol
   pub exports_differ : Pairwise OtherExport g.exports
   pub imports_differ : Pairwise OtherImport g.imports

@@ -1,6 +1,6 @@
 -- One record more: what was known before it is known behind it.
 use Rattle.std.proofs.Common.{◌≡◌, ℕ, ◌+◌, ◌-◌, ◌<◌, ◌≤◌, Bool, false, cond, not, ◌||◌, eqb, leb, List, [], ◌∷◌, ◌++◌, map, length, take, is_some, Some, None, Ok, Err, Option, sym, refl, ap, ◌∙◌, subst, arith}
-use Rattle.std.specs.List.{AllByRecursion as All}
+use Rattle.std.specs.List.{AllByRecursion}
 use Rattle.std.proofs.ByRecursion.{All-push, All-weaker}
 use Rattle.std.proofs.lemmas.List.{take_more_set, map_push, length_push, length-set}
 use Rattle.std.proofs.lemmas.Bool.Decides.{nat_tests}
@@ -25,7 +25,7 @@ clashes_push e [] x = or_last (clash e x)
 clashes_push e (y ∷ ys) x = ap (λ b. clash e y || b) (clashes_push e ys x) ∙ or_assoc (clash e y) (clashes e ys) (clash e x)
 
 -- no module has a record of a graph in which all owners stand before it
-nothing_twice : (g : Graph) (m : ℕ) → All (λ (i : Import). i.owner < m) g.imports → All (λ (e : Export). e.owner < m) g.exports → (e : Entry) → false ≡ given_twice g m e
+nothing_twice : (g : Graph) (m : ℕ) → AllByRecursion (λ (i : Import). i.owner < m) g.imports → AllByRecursion (λ (e : Export). e.owner < m) g.exports → (e : Entry) → false ≡ given_twice g m e
 nothing_twice g m is es (a_name bytes) = refl
 nothing_twice g m is es (a_module k id) = refl
 nothing_twice g m is es (a_star target) = refl
@@ -66,8 +66,8 @@ module _ (bytes : List ℕ) (s t : Progress) (g : Graph) (standing : Standing by
       → (stars imports exports : ℕ) → Counts s t (next_at bytes s.at) s.modules stars imports exports s.own s.kinds
       → (grown g (latest g) e).names ≡ g.names → (grown g (latest g) e).modules ≡ g.modules
       → length (grown g (latest g) e).stars ≡ stars → length (grown g (latest g) e).imports ≡ imports → length (grown g (latest g) e).exports ≡ exports
-      → All (λ (i : Import). i.owner < length g.modules) (grown g (latest g) e).imports
-      → All (λ (x : Export). x.owner < length g.modules) (grown g (latest g) e).exports
+      → AllByRecursion (λ (i : Import). i.owner < length g.modules) (grown g (latest g) e).imports
+      → AllByRecursion (λ (x : Export). x.owner < length g.modules) (grown g (latest g) e).exports
       → ((x : Entry) → given_twice (grown g (latest g) e) (latest g) x ≡ (given_twice g (latest g) x || clash x e))
       → Standing bytes t (grown g (latest g) e)
   owned_passes e read none some stars imports exports counts names modules star-count import_count export-count import_owners export_owners twice = record {
@@ -84,8 +84,8 @@ module _ (bytes : List ℕ) (s t : Progress) (g : Graph) (standing : Standing by
     own = standing.own ++ (e ∷ []);
     run = subst (λ p. Run bytes p (standing.own ++ (e ∷ [])) t.at) (sym counts.own_is) (subst (λ q. Run bytes s.own (standing.own ++ (e ∷ [])) q) (sym counts.at) (run_push bytes s.own standing.own s.at e standing.run read));
     twice = λ x. clashes_push x standing.own e ∙ ap (λ b. b || clash x e) (standing.twice x) ∙ sym (twice x) ∙ ap (λ (ms : List Module). given_twice (grown g (latest g) e) (length ms - 1) x) (sym modules);
-    import_owners = subst (λ (ms : List Module). All (λ (i : Import). i.owner < length ms) (grown g (latest g) e).imports) (sym modules) import_owners;
-    export_owners = subst (λ (ms : List Module). All (λ (x : Export). x.owner < length ms) (grown g (latest g) e).exports) (sym modules) export_owners;
+    import_owners = subst (λ (ms : List Module). AllByRecursion (λ (i : Import). i.owner < length ms) (grown g (latest g) e).imports) (sym modules) import_owners;
+    export_owners = subst (λ (ms : List Module). AllByRecursion (λ (x : Export). x.owner < length ms) (grown g (latest g) e).exports) (sym modules) export_owners;
     on = ap (λ p. gathered (grown g (latest g) e) (fields_at bytes p)) counts.at ∙ sym (gathered_more bytes s.at g e inside read none) ∙ standing.on;
     named = λ zero name h f. let z : s.modules ≡ 0 = sym counts.modules_are ∙ zero in absurd (omega arith);
   }
@@ -114,7 +114,7 @@ module _ (bytes : List ℕ) (s t : Progress) (g : Graph) (standing : Standing by
     };
     own = [];
     run = counts.own_is ∙ sym counts.at;
-    twice = λ x. nothing_twice (grown g (latest g) (a_module k id)) _ (subst (λ n. All (λ (i : Import). i.owner < n) g.imports) last standing.import_owners) (subst (λ n. All (λ (e : Export). e.owner < n) g.exports) last standing.export_owners) x;
+    twice = λ x. nothing_twice (grown g (latest g) (a_module k id)) _ (subst (λ n. AllByRecursion (λ (i : Import). i.owner < n) g.imports) last standing.import_owners) (subst (λ n. AllByRecursion (λ (e : Export). e.owner < n) g.exports) last standing.export_owners) x;
     import_owners = All-weaker _ _ (λ i h. omega (arith, longer)) g.imports standing.import_owners;
     export_owners = All-weaker _ _ (λ e h. omega (arith, longer)) g.exports standing.export_owners;
     on = ap (λ p. gathered (grown g (latest g) (a_module k id)) (fields_at bytes p)) counts.at ∙ sym (gathered_more bytes s.at g (a_module k id) inside read none) ∙ standing.on;

@@ -1,6 +1,6 @@
 -- What opening refuses a sheet for is its first fault.
 use Rattle.std.proofs.Common.{◌≡◌, ℕ, ◌≤◌, Bool, true, false, cond, eqb, ltb, ◌⊎◌, List, [], ◌∷◌, ◌++◌, length, Some, None, Ok, Err, Option, Result, sym, refl, ap, ◌∙◌, subst, inl, inr, ⊎_elim, arith, lit<, MatchResult}
-use Rattle.std.specs.List.{AllByRecursion as All}
+use Rattle.std.specs.List.{AllByRecursion}
 use Rattle.std.proofs.lemmas.Result.{MatchResult-weaker}
 use Rattle.std.proofs.lemmas.Bool.{true≢false, cond-true, cond-false, ltb-true, ltb-false, lt-ltb, le-ltb, eqb-true, eqb-false, eq-eqb, ne_eqb}
 use Rattle.graph.specs.declared.fault.Fault.{Fault}
@@ -76,7 +76,7 @@ stops g (x ∷ fs) fault e = ⊎_elim
 
 -- the first field that aims wrongly
 abbrev Miss : Graph → List Placed → Fault → Type 0
-Miss g fs fault = Found (λ before e. All (AimsWell g) before) (λ e f r. (f.content ≡ Ok e) × (aim_refusal g e ≡ Some r)) fs fault
+Miss g fs fault = Found (λ before e. AllByRecursion (AimsWell g) before) (λ e f r. (f.content ≡ Ok e) × (aim_refusal g e ≡ Some r)) fs fault
 
 misses : (g : Graph) (fs : List Placed) (fault : Fault) → aims g fs ≡ Some fault → Miss g fs fault
 misses g [] fault told = absurd (true≢false (cc told))
@@ -99,7 +99,7 @@ gathered_past g h (x ∷ before) fs passed =
     let ok = unless_ok layer.Sheet (field_refusal g x.content) x.place (gathered (with_field g x.content) before) h passed in
     ap (λ r. unless (sheet_fault r x.place) (gathered (with_field g x.content) (before ++ fs))) ok.0 ∙ gathered_past (with_field g x.content) h before fs ok.1
 
-aims_past : (g h k : Graph) (before fs : List Placed) → gathered h (before ++ fs) ≡ Ok k → All (AimsWell g) before → aims g (before ++ fs) ≡ aims g fs
+aims_past : (g h k : Graph) (before fs : List Placed) → gathered h (before ++ fs) ≡ Ok k → AllByRecursion (AimsWell g) before → aims g (before ++ fs) ≡ aims g fs
 aims_past g h k [] fs passed well = refl
 aims_past g h k (x ∷ before) fs passed well =
     let ok = unless_ok layer.Sheet (field_refusal h x.content) x.place (gathered (with_field h x.content) (before ++ fs)) k passed in

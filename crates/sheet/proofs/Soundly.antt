@@ -1,6 +1,6 @@
 -- The graph of any bytes is sound.
 use Rattle.std.proofs.Common.{◌≡◌, ℕ, zero, suc, ◌+◌, ◌<◌, ◌≤◌, Bool, false, cond, eqb, ltb, List, [], ◌∷◌, length, get_or, drop, Some, None, Ok, Err, Option, Result, refl, subst, arith}
-use Rattle.std.specs.List.{AllByRecursion as All}
+use Rattle.std.specs.List.{AllByRecursion}
 use Rattle.std.proofs.ByRecursion.{All-weaker}
 use Rattle.std.proofs.lemmas.Bool.{cond_both}
 use Rattle.std.proofs.lemmas.Bool.Decides.{nat_tests}
@@ -48,9 +48,9 @@ formed_content tag payload =
 formed_at : (bytes : List ℕ) (p : ℕ) → FormedField (field_at bytes p)
 formed_at bytes p = formed_either (ltb (length bytes) (p + 3)) _ _ tt (formed_either (ltb (length bytes) (next_at bytes p)) _ _ tt (formed_content (get_or bytes p 0) (payload_at bytes p)))
 
-formed_all : (steps : ℕ) (bytes : List ℕ) (p : ℕ) → All (λ (f : Placed). FormedField f.content) (fields_from steps bytes p)
+formed_all : (steps : ℕ) (bytes : List ℕ) (p : ℕ) → AllByRecursion (λ (f : Placed). FormedField f.content) (fields_from steps bytes p)
 formed_all zero bytes p = tt
-formed_all (suc steps) bytes p = cond_both (ltb p (length bytes)) _ _ (All (λ (f : Placed). FormedField f.content)) (λ _. (formed_at bytes p, formed_all steps bytes (next_at bytes p))) (λ _. tt)
+formed_all (suc steps) bytes p = cond_both (ltb p (length bytes)) _ _ (AllByRecursion (λ (f : Placed). FormedField f.content)) (λ _. (formed_at bytes p, formed_all steps bytes (next_at bytes p))) (λ _. tt)
 
 not_later : (g : Graph) (m : ℕ) → EsModule g m → m ≤ latest g
 not_later g m es = omega (arith, kind_inside g.modules m kind.Es es)
@@ -90,7 +90,7 @@ module _ {whole g : Graph} (so : SoFar whole g) where
   field_so_far (Ok e) place later formed passed aimed = let parts = either_none layer.Sheet (aim_refusal whole e) place later aimed in (record_so_far e formed passed parts.0, parts.1)
 
 -- all fields, where the whole graph has what their records aim at
-gathered_so_far : (whole g h : Graph) (fs : List Placed) → All (λ (f : Placed). FormedField f.content) fs → gathered g fs ≡ Ok h → aims whole fs ≡ None → SoFar whole g → SoFar whole h
+gathered_so_far : (whole g h : Graph) (fs : List Placed) → AllByRecursion (λ (f : Placed). FormedField f.content) fs → gathered g fs ≡ Ok h → aims whole fs ≡ None → SoFar whole g → SoFar whole h
 gathered_so_far whole g h [] formed passed aimed so = let same : g ≡ h = cc in subst (SoFar whole) same so
 gathered_so_far whole g h (f ∷ fs) formed passed aimed so =
     let ok = unless_ok layer.Sheet (field_refusal g f.content) f.place (gathered (with_field g f.content) fs) h passed in

@@ -1,6 +1,6 @@
 -- The first fault of a sheet, as a relation: its length, then its fields, then the names, then the targets.
 use Rattle.std.specs.Prelude.{◌≡◌, ℕ, ◌<◌, ◌≤◌, List, ◌∷◌, ◌++◌, length, Ok, Err}
-use Rattle.std.specs.List.{AllByRecursion as All}
+use Rattle.std.specs.List.{AllByRecursion}
 use Rattle.graph.specs.declared.fault.Fault.{Fault}
 use Rattle.graph.specs.declared.fault.Reason.{Reason}
 use Rattle.graph.specs.declared.fault.Reason.TheVariants.{BadLength, BadName}
@@ -41,4 +41,4 @@ pub data FirstFault (bytes : List ℕ) : Fault → Type 0 where
   -- all fields pass, and there is no name
   nameless : {g : Graph} → Passed bytes g → length g.names ≡ 0 → FirstFault bytes (fault_at BadName (length bytes))
   -- all fields pass, there is a name, and f's record is the first that aims wrongly
-  misaimed : {f : Placed} {g : Graph} {e : Entry} {r : Reason} {before : List Placed} → Passed bytes g → 0 < length g.names → Behind bytes before f → All (AimsWell g) before → f.content ≡ Ok e → Smallest (aim_cases g e) r → FirstFault bytes (fault_at r f.place)
+  misaimed : {f : Placed} {g : Graph} {e : Entry} {r : Reason} {before : List Placed} → Passed bytes g → 0 < length g.names → Behind bytes before f → AllByRecursion (AimsWell g) before → f.content ≡ Ok e → Smallest (aim_cases g e) r → FirstFault bytes (fault_at r f.place)

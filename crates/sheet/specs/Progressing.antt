@@ -1,6 +1,6 @@
 -- What the checks of a sheet know between two fields.
 use Rattle.std.specs.Prelude.{◌≡◌, ℕ, ◌+◌, ◌-◌, ◌<◌, ◌≤◌, Bool, false, cond, not, ◌||◌, List, [], ◌∷◌, map, length, take, Some, None, Ok, Option, ◌==◌, ◌≢◌, nat_le, slice_set}
-use Rattle.std.specs.List.{slice_get, AllByRecursion as All}
+use Rattle.std.specs.List.{slice_get, AllByRecursion}
 use Rattle.graph.specs.declared.fault.Reason.{Reason}
 use Rattle.graph.specs.declared.fault.Reason.TheVariants.{OutOfOrder, OverLimit, NoRecord, Duplicate, WrongKind}
 use Rattle.graph.specs.declared.records.Export.{Export}
@@ -93,8 +93,8 @@ pub record Standing (bytes : List ℕ) (s : Progress) (g : Graph) : Type 0 where
   pub own : List Entry
   pub run : Run bytes s.own own s.at
   pub twice : (e : Entry) → clashes e own ≡ given_twice g (latest g) e
-  pub import_owners : All (λ (i : Import). i.owner < length g.modules) g.imports
-  pub export_owners : All (λ (e : Export). e.owner < length g.modules) g.exports
+  pub import_owners : AllByRecursion (λ (i : Import). i.owner < length g.modules) g.imports
+  pub export_owners : AllByRecursion (λ (e : Export). e.owner < length g.modules) g.exports
   pub on : gathered g (fields_at bytes s.at) ≡ gathered no_records (fields_at bytes 0)
   -- before the first module no name is left
   pub named : s.modules ≡ 0 → (name : List ℕ) → s.at < length bytes → field_at bytes s.at ≢ Ok (a_name name)

@@ -1,6 +1,6 @@
 -- Lists that can be read, and whose graph is sound, open.
 use Rattle.std.proofs.Common.{◌≡◌, ℕ, ◌+◌, ◌<◌, ◌≤◌, Bool, true, false, cond, not, ◌&&◌, ◌||◌, eqb, leb, List, [], ◌∷◌, ◌++◌, map, length, is_some, is_ok, Some, None, Ok, Err, Option, Result, sym, refl, ap, ◌∙◌, subst, ⊎_elim, arith, MatchResult}
-use Rattle.std.specs.List.{slice_get, AllByRecursion as All}
+use Rattle.std.specs.List.{slice_get, AllByRecursion}
 use Rattle.std.specs.Str.{bytes_eq}
 use Rattle.std.proofs.ByRecursion.{All-weaker}
 use Rattle.std.proofs.lemmas.Slice.Eq.{bytes_eq-Decides}
@@ -42,15 +42,15 @@ use Rattle.tables.proofs.Refused.{row_owner, row_symbol, star_same, import_same,
 
 -- what holds of a whole list, at one of its elements
 module _ {X : Type 0} where
-  all_at : (P : X → Type 0) (xs : List X) (x : X) (ys : List X) → All P (xs ++ (x ∷ ys)) → P x
+  all_at : (P : X → Type 0) (xs : List X) (x : X) (ys : List X) → AllByRecursion P (xs ++ (x ∷ ys)) → P x
   all_at P [] x ys all = all.0
   all_at P (z ∷ xs) x ys all = all_at P xs x ys all.1
 
-  all_before : (P : X → Type 0) (xs ys : List X) → All P (xs ++ ys) → All P xs
+  all_before : (P : X → Type 0) (xs ys : List X) → AllByRecursion P (xs ++ ys) → AllByRecursion P xs
   all_before P [] ys all = tt
   all_before P (x ∷ xs) ys all = (all.0, all_before P xs ys all.1)
 
-  pairs_at : (R : X → X → Type 0) (xs : List X) (x : X) (ys : List X) → Pairwise R (xs ++ (x ∷ ys)) → All (λ y. R y x) xs
+  pairs_at : (R : X → X → Type 0) (xs : List X) (x : X) (ys : List X) → Pairwise R (xs ++ (x ∷ ys)) → AllByRecursion (λ y. R y x) xs
   pairs_at R [] x ys pairs = tt
   pairs_at R (z ∷ xs) x ys pairs = (all_at (R z) xs x ys pairs.0, pairs_at R xs x ys pairs.1)
 
@@ -70,16 +70,16 @@ ok_told : (c : Result Entry Reason) → is_ok c ≡ true → (e : Entry) × (c �
 ok_told (Ok e) h = (e, refl)
 ok_told (Err r) h = absurd (false≢true h)
 
-not_listed : (name : List ℕ) (names : List (List ℕ)) → All (λ x. x ≡ name → ⊥) names → listed name names ≡ false
+not_listed : (name : List ℕ) (names : List (List ℕ)) → AllByRecursion (λ x. x ≡ name → ⊥) names → listed name names ≡ false
 not_listed name [] other = refl
 not_listed name (x ∷ xs) other = or_from (bytes_eq name x) (listed name xs) (⊎_elim (λ t. absurd (other.0 (sym ((bytes_eq-Decides name x).0 t)))) (λ f. f) (cases_Bool (bytes_eq name x))) (not_listed name xs other.1)
 
-not_wrong : (names : List (List ℕ)) (name : List ℕ) (later : List (List ℕ)) → slice_get (names ++ (name ∷ later)) 0 ≡ Some default_name → All (λ x. x ≡ name → ⊥) names → wrong_name names name ≡ false
+not_wrong : (names : List (List ℕ)) (name : List ℕ) (later : List (List ℕ)) → slice_get (names ++ (name ∷ later)) 0 ≡ Some default_name → AllByRecursion (λ x. x ≡ name → ⊥) names → wrong_name names name ≡ false
 not_wrong [] name later first other = let same : name ≡ default_name = cc in not_from_true _ ((bytes_eq-Decides name default_name).1 same)
 not_wrong (x ∷ xs) name later first other = not_listed name (x ∷ xs) other
 
 -- no element with this owner has this key
-keyed_none : {X : Type 0} (owner key : X → ℕ) (xs : List X) (m k : ℕ) → All (λ x. owner x ≡ m → key x ≡ k → ⊥) xs → first_keyed owner key xs m k ≡ None
+keyed_none : {X : Type 0} (owner key : X → ℕ) (xs : List X) (m k : ℕ) → AllByRecursion (λ x. owner x ≡ m → key x ≡ k → ⊥) xs → first_keyed owner key xs m k ≡ None
 keyed_none owner key [] m k other = refl
 keyed_none owner key (x ∷ xs) m k other = cond-false _ _ _ (apart (owner x) m (key x) k other.0) ∙ keyed_none owner key xs m k other.1
   where
@@ -100,7 +100,7 @@ module _ (h : Held) (readable : Readable h) (sound : Sound (meant h)) where
       fine : (xs : List Span) (x : Span) (ys : List Span) → h.names ≡ xs ++ (x ∷ ys) → content_refusal (with_names h xs) None (name_content h.bytes x) ≡ None
       fine xs x ys is =
           let f = bytes_in h.bytes in
-          let ok = ok_told (name_content h.bytes x) (all_at _ xs x ys (subst (All _) is readable.names)) in
+          let ok = ok_told (name_content h.bytes x) (all_at _ xs x ys (subst (AllByRecursion _) is readable.names)) in
           let split = split_map f h.names xs x ys is in
           let content : name_content h.bytes x ≡ Ok (a_name (f x)) = ok.1 ∙ ap Ok (name_told h.bytes x ok.0 ok.1) in
           let other = pairs_at (λ a b. a ≡ b → ⊥) (map f xs) (f x) (map f ys) (subst (Pairwise (λ a b. a ≡ b → ⊥)) split sound.names_differ) in
@@ -114,7 +114,7 @@ module _ (h : Held) (readable : Readable h) (sound : Sound (meant h)) where
       fine : (xs : List ModuleRow) (x : ModuleRow) (ys : List ModuleRow) → h.modules ≡ xs ++ (x ∷ ys) → content_refusal (with_modules h xs) None (module_content h.bytes x) ≡ None
       fine xs x ys is =
           let f = module_of h.bytes in
-          let ok = ok_told (module_content h.bytes x) (all_at _ xs x ys (subst (All _) is readable.modules)) in
+          let ok = ok_told (module_content h.bytes x) (all_at _ xs x ys (subst (AllByRecursion _) is readable.modules)) in
           let split = split_map f h.modules xs x ys is in
           let content : module_content h.bytes x ≡ Ok (a_module (f x).kind (bytes_in h.bytes x.id)) = ok.1 ∙ ap Ok (module_told h.bytes x ok.0 ok.1) in
           let few : length (map f xs) < 256 = omega (arith, shorter (map f xs) (f x) (map f ys), ap length split, sound.module_limit) in
@@ -130,7 +130,7 @@ module _ (h : Held) (readable : Readable h) (sound : Sound (meant h)) where
       fine : (xs : List Star) (x : Star) (ys : List Star) → h.stars ≡ xs ++ (x ∷ ys) → content_refusal (with_stars h xs) (star_writes x) (star_content h.bytes x) ≡ None
       fine xs x ys is =
           let up = pairs_at (λ a b. star_owner a ≤ star_owner b) xs x ys (subst (Rising star_owner) is sound.stars_rise) in
-          let es : EsModule (meant h) x.owner = all_at _ xs x ys (subst (All _) is sound.star_owners) in
+          let es : EsModule (meant h) x.owner = all_at _ xs x ys (subst (AllByRecursion _) is sound.star_owners) in
           let few : length xs < 1024 = omega (arith, shorter xs x ys, ap length is, sound.star_limit) in
           sym (star_same h xs x)
           ∙ owned_none _ (length xs) _ _ _ (falls_never star_owner x.owner xs up) few (or_from _ _ (known_owner x.owner es) refl) refl (ap is_es es)
@@ -146,8 +146,8 @@ module _ (h : Held) (readable : Readable h) (sound : Sound (meant h)) where
       fine xs x ys is =
           let split = split_map import_of h.imports xs x ys is in
           let up = pairs_at (λ a b. import_owner a ≤ import_owner b) (map import_of xs) (import_of x) (map import_of ys) (subst (Rising import_owner) split sound.imports_rise) in
-          let es : EsModule (meant h) x.owner = all_at _ (map import_of xs) (import_of x) (map import_of ys) (subst (All _) split sound.import_owners) in
-          let known : Known (meant h) (wanted_numbered x.name) = all_at _ (map import_of xs) (import_of x) (map import_of ys) (subst (All _) split sound.import_names) in
+          let es : EsModule (meant h) x.owner = all_at _ (map import_of xs) (import_of x) (map import_of ys) (subst (AllByRecursion _) split sound.import_owners) in
+          let known : Known (meant h) (wanted_numbered x.name) = all_at _ (map import_of xs) (import_of x) (map import_of ys) (subst (AllByRecursion _) split sound.import_names) in
           let other = pairs_at _ (map import_of xs) (import_of x) (map import_of ys) (subst (Pairwise _) split sound.imports_differ) in
           let few : length xs < 1024 = omega (arith, shorter (map import_of xs) (import_of x) (map import_of ys), length-map xs import_of, ap length split, sound.import_limit) in
           sym (import_same h xs x)
@@ -164,8 +164,8 @@ module _ (h : Held) (readable : Readable h) (sound : Sound (meant h)) where
       fine : (xs : List Export) (x : Export) (ys : List Export) → h.exports ≡ xs ++ (x ∷ ys) → content_refusal (with_exports h xs) (export_writes x) (export_content h.bytes x) ≡ None
       fine xs x ys is =
           let up = pairs_at (λ a b. export_owner a ≤ export_owner b) xs x ys (subst (Rising export_owner) is sound.exports_rise) in
-          let es : EsModule (meant h) x.owner = all_at _ xs x ys (subst (All _) is sound.export_owners) in
-          let known : x.name < length (meant h).names = all_at _ xs x ys (subst (All _) is sound.export_names) in
+          let es : EsModule (meant h) x.owner = all_at _ xs x ys (subst (AllByRecursion _) is sound.export_owners) in
+          let known : x.name < length (meant h).names = all_at _ xs x ys (subst (AllByRecursion _) is sound.export_names) in
           let other = pairs_at _ xs x ys (subst (Pairwise _) is sound.exports_differ) in
           let few : length xs < 1024 = omega (arith, shorter xs x ys, ap length is, sound.export_limit) in
           sym (export_same h xs x)
@@ -179,7 +179,7 @@ module _ (h : Held) (readable : Readable h) (sound : Sound (meant h)) where
   all_pass : gathered layer.Tables no_records (records h) ≡ Ok (meant h)
   all_pass = to_exports h names_pass modules_pass stars_pass imports_pass ∙ exports_pass
 
-  star_aims_well : All (λ (s : Star). aim_refusal (meant h) (star_entry s) ≡ None) h.stars
+  star_aims_well : AllByRecursion (λ (s : Star). aim_refusal (meant h) (star_entry s) ≡ None) h.stars
   star_aims_well = All-weaker _ _ (λ s aims. cond-false _ _ _ (lt-leb (length (meant h).modules) s.target aims.0) ∙ cond-false _ _ _ (inner (kind_in (meant h).modules s.target) aims.1)) h.stars sound.star_targets
     where
       inner : (o : Option Kind) → (o ≡ Some kind.External → ⊥) → is_external o ≡ false
@@ -188,7 +188,7 @@ module _ (h : Held) (readable : Readable h) (sound : Sound (meant h)) where
       inner (Some kind.External) never = absurd (never refl)
       inner (Some kind.Empty) never = refl
 
-  import_aims_well : All (λ (i : ImportRow). aim_refusal (meant h) (import_entry i) ≡ None) h.imports
+  import_aims_well : AllByRecursion (λ (i : ImportRow). aim_refusal (meant h) (import_entry i) ≡ None) h.imports
   import_aims_well = All-weaker _ _ (λ i inside. cond-false _ _ _ (lt-leb (length (meant h).modules) i.target inside)) h.imports (all-from-map (λ (i : Import). i.target < length (meant h).modules) import_of h.imports sound.import_targets)
 
   some_name : 0 < length h.names

@@ -1,6 +1,6 @@
 -- The graph of tables that open.
 use Rattle.std.proofs.Common.{◌≡◌, ℕ, ◌+◌, true, List, [], ◌∷◌, ◌++◌, is_ok, Some, None, Ok, Err, Option, Result, sym, refl, ap, ◌∙◌, subst}
-use Rattle.std.specs.List.{AllByRecursion as All}
+use Rattle.std.specs.List.{AllByRecursion}
 use Rattle.std.proofs.lemmas.Bool.{false≢true}
 use Rattle.graph.specs.declared.fault.Fault.{Fault}
 use Rattle.graph.specs.declared.fault.Layer.TheVariants as layer
@@ -35,7 +35,7 @@ then_parts (Ok x) next y e = (x, refl, e)
 then_parts (Err f) next y e = absurd (false≢true (cc e))
 
 -- records that pass can be read
-passed_readable : {X : Type 0} (owner : X → Option ℕ) (content : X → Result Entry Reason) (stage : List X → Graph) → Grows owner content stage → (xs ys : List X) (p : ℕ) (k : Graph) → gathered layer.Tables (stage xs) (rows_from owner content p ys) ≡ Ok k → All (λ y. is_ok (content y) ≡ true) ys
+passed_readable : {X : Type 0} (owner : X → Option ℕ) (content : X → Result Entry Reason) (stage : List X → Graph) → Grows owner content stage → (xs ys : List X) (p : ℕ) (k : Graph) → gathered layer.Tables (stage xs) (rows_from owner content p ys) ≡ Ok k → AllByRecursion (λ y. is_ok (content y) ≡ true) ys
 passed_readable owner content stage grows xs [] p k passed = tt
 passed_readable owner content stage grows xs (y ∷ ys) p k passed =
     let next = first_passes owner content stage grows xs y ys p k passed in

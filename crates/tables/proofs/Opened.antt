@@ -1,6 +1,6 @@
 -- Opening tables, from the checks of each list.
 use Rattle.std.proofs.Common.{◌≡◌, ℕ, ◌+◌, ◌<◌, cond, eqb, List, [], ◌∷◌, ◌++◌, length, Some, None, Ok, Err, Option, Result, sym, refl, ap, ◌∙◌, subst, append_assoc, arith, MatchResult}
-use Rattle.std.specs.List.{AllByRecursion as All}
+use Rattle.std.specs.List.{AllByRecursion}
 use Rattle.std.proofs.ByRecursion.{All-append}
 use Rattle.std.proofs.lemmas.List.{length-map}
 use Rattle.std.proofs.lemmas.Result.{MatchResult-weaker}
@@ -45,12 +45,12 @@ aims_append g owner entry p (x ∷ xs) ys =
     ∙ sym (either_assoc (placed layer.Tables (aim_refusal g (entry x)) p) (aims layer.Tables g (rows_from owner (λ x. Ok (entry x)) (p + 1) xs)) (aims layer.Tables g ys))
 
 -- where each record aims well, nothing is refused
-pub aims_well : {X : Type 0} (g : Graph) (owner : X → Option ℕ) (entry : X → Entry) (p : ℕ) (xs : List X) → All (λ x. aim_refusal g (entry x) ≡ None) xs → aims layer.Tables g (rows_from owner (λ x. Ok (entry x)) p xs) ≡ None
+pub aims_well : {X : Type 0} (g : Graph) (owner : X → Option ℕ) (entry : X → Entry) (p : ℕ) (xs : List X) → AllByRecursion (λ x. aim_refusal g (entry x) ≡ None) xs → aims layer.Tables g (rows_from owner (λ x. Ok (entry x)) p xs) ≡ None
 aims_well g owner entry p [] well = refl
 aims_well g owner entry p (x ∷ xs) well = ap (λ o. either_fault (placed layer.Tables o p) (aims layer.Tables g (rows_from owner (λ x. Ok (entry x)) (p + 1) xs))) well.0 ∙ aims_well g owner entry (p + 1) xs well.1
 
 -- what holds of each record of a list by what it says
-all_rows : {X : Type 0} (P : Result Entry Reason → Type 0) (owner : X → Option ℕ) (content : X → Result Entry Reason) → ((x : X) → P (content x)) → (p : ℕ) (xs : List X) → All (λ (r : Placed). P r.content) (rows_from owner content p xs)
+all_rows : {X : Type 0} (P : Result Entry Reason → Type 0) (owner : X → Option ℕ) (content : X → Result Entry Reason) → ((x : X) → P (content x)) → (p : ℕ) (xs : List X) → AllByRecursion (λ (r : Placed). P r.content) (rows_from owner content p xs)
 all_rows P owner content each p [] = tt
 all_rows P owner content each p (x ∷ xs) = (each x, all_rows P owner content each (p + 1) xs)
 
@@ -94,7 +94,7 @@ module _ (h : Held) where
   aims_fine : (content : Result Entry Reason) (x : Entry) → aim_refusal (meant h) x ≡ None → ((e : Entry) → content ≡ Ok e → e ≡ x) → AimsFine content
   aims_fine content x none told e r is given = none_given (aim_cases (meant h) e) (ap (aim_refusal (meant h)) (told e is) ∙ none) r given
 
-  head_aims : All (AimsWell (meant h)) (name_rows h ++ module_rows h)
+  head_aims : AllByRecursion (AimsWell (meant h)) (name_rows h ++ module_rows h)
   head_aims = All-append (AimsWell (meant h)) (name_rows h) (module_rows h)
       (all_rows AimsFine no_owner (name_content h.bytes) (λ s. aims_fine (name_content h.bytes s) (a_name (bytes_in h.bytes s)) refl (name_told h.bytes s)) 0 h.names)
       (all_rows AimsFine no_owner (module_content h.bytes) (λ m. aims_fine (module_content h.bytes m) (a_module (module_of h.bytes m).kind (bytes_in h.bytes m.id)) refl (module_told h.bytes m)) (module_place h) h.modules)
@@ -135,7 +135,7 @@ module _ (h : Held) where
       imports_tell none r told = MatchResult-weaker r told (λ _ e. to_aims None none ∙ ap (λ o. unless o (Ok (meant h))) e) (λ f e. to_aims None none ∙ ap (λ o. unless o (Ok (meant h))) e)
 
   -- every record that can be read is well formed
-  all_formed : All FormedRecord (records h)
+  all_formed : AllByRecursion FormedRecord (records h)
   all_formed =
       All-append FormedRecord (name_rows h) _ (all_rows FormedContent no_owner (name_content h.bytes) (λ s. formed_either (inside h.bytes s) _ _ (formed_name (bytes_in h.bytes s)) tt) 0 h.names)
       (All-append FormedRecord (module_rows h) _ (all_rows FormedContent no_owner (module_content h.bytes) (λ m. formed_either (inside h.bytes m.id) _ _ (formed_module m.kind (bytes_in h.bytes m.id)) tt) (module_place h) h.modules)

@@ -1,7 +1,7 @@
 -- Owners that fall, and look-ups by owner, over lists and what they are made from.
 use Rattle.std.proofs.Common.{◌≡◌, ℕ, zero, suc, ◌-◌, ◌<◌, ◌≤◌, Bool, true, false, cond, ◌&&◌, ◌||◌, eqb, ltb, List, [], ◌∷◌, map, length, get_or, is_some, Some, None, Option, sym, refl, ap, ◌∙◌, ⊎_elim, arith}
 use Rattle.std.specs.Option.{option_map}
-use Rattle.std.specs.List.{AllByRecursion as All}
+use Rattle.std.specs.List.{AllByRecursion}
 use Rattle.std.proofs.ByRecursion.{All-from_get_or}
 use Rattle.std.proofs.lemmas.List.{get_or_read}
 use Rattle.std.proofs.lemmas.Bool.{or_from, or_left, or_right, lt-ltb, le-ltb, cases_lt}
@@ -11,7 +11,7 @@ use Rattle.graph.specs.Soundness.{Rising}
 use Rattle.graph.proofs.Rising.{rises}
 
 module _ {X : Type 0} (owner : X → ℕ) (m : ℕ) where
-  pub falls_never : (xs : List X) → All (λ x. owner x ≤ m) xs → falls_behind owner xs m ≡ false
+  pub falls_never : (xs : List X) → AllByRecursion (λ x. owner x ≤ m) xs → falls_behind owner xs m ≡ false
   falls_never [] all = refl
   falls_never (x ∷ xs) all = or_from (ltb m (owner x)) (falls_behind owner xs m) (le-ltb m (owner x) all.0) (falls_never xs all.1)
 
