@@ -1,3 +1,9 @@
 pub mod Finding
+pub mod Numbering
+pub mod Rising
+pub mod Naming
+pub mod Aiming
 pub mod Pushing
 pub mod Foremost
+pub mod Firstly
+pub mod Soundly

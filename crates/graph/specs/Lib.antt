@@ -3,4 +3,6 @@ pub mod Graphs
 pub mod Lookups
 pub mod Entries
 pub mod Rules
+pub mod Opening
+pub mod Foremost
 pub mod Soundness

@@ -3,5 +3,7 @@
 
 pub mod fault;
 pub mod limits;
+pub mod lookups;
 pub mod records;
+pub mod rules;
 pub mod source;

@@ -7,4 +7,4 @@ pub returns : goal.returns
 returns g c = λ up.
     c.first_with.ensures
     ∙ ap (λ l. first_with g.T.Keyed.keyed l c.args.key) (c.records_of.ensures up)
-    ∙ first_in_run g.T-as-Owned.belongs g.T.Keyed.keyed c.args.records.now c.args.m c.args.key
+    ∙ first_in_run g.T.Owned.belongs g.T.Keyed.keyed c.args.records.now c.args.m c.args.key

@@ -8,7 +8,7 @@ abbrev pub invariant-loop-low : goal.invariant-loop-low
 invariant-loop-low g l =
     (l.low ≤ l.high)
     × (l.high ≤ length l.records)
-    × (Rising g.T-as-Owned.belongs l.records → AllWithin (λ x. g.T-as-Owned.belongs x ≤ l.m) l.records 0 l.low × AllWithin (λ x. l.m < g.T-as-Owned.belongs x) l.records l.high (length l.records))
+    × (Rising g.T.Owned.belongs l.records → AllWithin (λ x. g.T.Owned.belongs x ≤ l.m) l.records 0 l.low × AllWithin (λ x. l.m < g.T.Owned.belongs x) l.records l.high (length l.records))
 
 abbrev pub decreases-loop-low : goal.decreases-loop-low
 decreases-loop-low g l = l.high - l.low

@@ -66,7 +66,7 @@ impl Keyed for Export {
 // How many records at the front have an owner up to `m`, where owners do not fall.
 fn count_up_to<T: Owned>(records: &[T], m: usize) -> usize
     ensures within { result ≤ length records.now }
-    ensures split { Rising belongs records.now → AllByRecursion (λ x. belongs x ≤ m) (take result records.now) × AllByRecursion (λ x. m < belongs x) (drop result records.now) }
+    ensures split { Rising T.belongs records.now → AllByRecursion (λ x. T.belongs x ≤ m) (take result records.now) × AllByRecursion (λ x. m < T.belongs x) (drop result records.now) }
 {
     let mut low = 0;
     let mut high = records.len();
@@ -84,7 +84,7 @@ fn count_up_to<T: Owned>(records: &[T], m: usize) -> usize
 // How many records at the front have an owner before `m`, where owners do not fall.
 fn count_before<T: Owned>(records: &[T], m: usize) -> usize
     ensures within { result ≤ length records.now }
-    ensures split { Rising belongs records.now → AllByRecursion (λ x. belongs x < m) (take result records.now) × AllByRecursion (λ x. m ≤ belongs x) (drop result records.now) }
+    ensures split { Rising T.belongs records.now → AllByRecursion (λ x. T.belongs x < m) (take result records.now) × AllByRecursion (λ x. m ≤ T.belongs x) (drop result records.now) }
 {
     if m == 0 {
         return 0;
@@ -94,7 +94,7 @@ fn count_before<T: Owned>(records: &[T], m: usize) -> usize
 
 // The records of module `m`, which stand together where owners do not fall.
 pub fn records_of<T: Owned>(records: &[T], m: usize) -> &[T]
-    ensures { Rising belongs records.now → result.now ≡ owned_by belongs records.now m }
+    ensures { Rising T.belongs records.now → result.now ≡ owned_by T.belongs records.now m }
 {
     let rest = &records[count_before(records, m)..];
     &rest[0..count_up_to(rest, m)]
@@ -102,7 +102,7 @@ pub fn records_of<T: Owned>(records: &[T], m: usize) -> &[T]
 
 // Record `k` of module `m`, where owners do not fall.
 pub fn nth_of<T: Owned>(records: &[T], m: usize, k: usize) -> Option<T>
-    ensures { Rising belongs records.now → result ≡ slice_get (owned_by belongs records.now m) k }
+    ensures { Rising T.belongs records.now → result ≡ slice_get (owned_by T.belongs records.now m) k }
 {
     element_at(records_of(records, m), k)
 }
@@ -116,7 +116,7 @@ pub fn element_at<T: Copy>(xs: &[T], i: usize) -> Option<T>
 
 // The first record with this key.
 fn first_with<T: Keyed>(records: &[T], key: usize) -> Option<T>
-    ensures { result ≡ first_with keyed records.now key }
+    ensures { result ≡ first_with T.keyed records.now key }
 {
     for record in records {
         if usize::from(record.key()) == key {
@@ -128,7 +128,7 @@ fn first_with<T: Keyed>(records: &[T], key: usize) -> Option<T>
 
 // The first record of module `m` with this key, where owners do not fall.
 pub fn find_of<T: Owned + Keyed>(records: &[T], m: usize, key: usize) -> Option<T>
-    ensures { Rising belongs records.now → result ≡ first_keyed belongs keyed records.now m key }
+    ensures { Rising T.belongs records.now → result ≡ first_keyed T.belongs T.keyed records.now m key }
 {
     first_with(records_of(records, m), key)
 }

@@ -9,8 +9,8 @@ returns-then-m-eq0 g c = record { within = omega arith; split = λ up. (tt, all_
 pub returns : goal.returns
 returns g c =
     record {
-      within = c.count-up-to.ensures.within;
+      within = c.count_up_to.ensures.within;
       split = λ up.
-          let told = c.count-up-to.ensures.split up in
-          (All-weaker _ _ (λ x h. omega arith) (take c.count-up-to.result c.args.records.now) told.0, All-weaker _ _ (λ x h. omega arith) (drop c.count-up-to.result c.args.records.now) told.1);
+          let told = c.count_up_to.ensures.split up in
+          (All-weaker _ _ (λ x h. omega arith) (take c.count_up_to.result c.args.records.now) told.0, All-weaker _ _ (λ x h. omega arith) (drop c.count_up_to.result c.args.records.now) told.1);
     }
