@@ -1,4 +1,5 @@
 pub mod Finding
+pub mod Keyed
 pub mod Numbering
 pub mod Rising
 pub mod Naming

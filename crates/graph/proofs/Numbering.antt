@@ -1,5 +1,5 @@
 -- Kinds and what imports want, by their numbers.
-use Rattle.std.proofs.Common.{◌≡◌, ℕ, cond, eqb, Some, refl}
+use Rattle.std.proofs.Common.{◌≡◌, ℕ, eqb, Some, refl}
 use Rattle.std.proofs.lemmas.Bool.{cond_both, cond-false}
 use Rattle.graph.specs.declared.records.Kind.{Kind}
 use Rattle.graph.specs.declared.records.Kind.TheVariants.{Es, External, Empty}

@@ -1,12 +1,12 @@
 -- Lists in which owners do not fall: the elements of one owner stand together.
-use Rattle.std.proofs.Common.{◌≡◌, ℕ, zero, suc, ◌+◌, ◌<◌, ◌≤◌, Bool, true, false, cond, ◌&&◌, eqb, List, [], ◌∷◌, ◌++◌, length, get_or, take, drop, Some, None, filter, Option, sym, refl, ap, ◌∙◌, subst, arith}
+use Rattle.std.proofs.Common.{◌≡◌, ℕ, zero, suc, ◌+◌, ◌<◌, ◌≤◌, Bool, true, false, cond, ◌&&◌, eqb, List, [], ◌∷◌, ◌++◌, length, get_or, take, drop, Some, None, sym, refl, ap, ◌∙◌, subst, arith}
 use Rattle.std.specs.List.{AllWithin, AllByRecursion}
 use Rattle.std.proofs.lemmas.List.Elements.{filter-append}
-use Rattle.std.proofs.ByRecursion.{All-get_or, All-weaker, All-take, All-drop, all_from_every}
+use Rattle.std.proofs.ByRecursion.{All-get_or, All-weaker, All-take, all_from_every}
 use Rattle.std.proofs.lemmas.List.{take-append-drop, append-nil, get_or-take, get_or-drop, length-take, length-drop, get_or_read, at_drop_more, at_drop_all}
 use Rattle.std.proofs.lemmas.Bool.{cond-true, cond-false, eq-eqb, ne_eqb}
 use Rattle.graph.specs.Lookups.{owned_by, first_with, first_keyed}
-use Rattle.graph.specs.Soundness.{Pairwise, Rising}
+use Rattle.graph.specs.Soundness.{Rising}
 
 module _ {X : Type 0} (owner : X → ℕ) where
   -- an earlier element has no later owner

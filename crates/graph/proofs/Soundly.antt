@@ -13,10 +13,9 @@ use Rattle.graph.specs.declared.records.Kind.TheVariants as kind
 use Rattle.graph.specs.Graphs.{Graph, no_records}
 use Rattle.graph.specs.Entries.{Entry, a_name, a_module, a_star, an_import, an_export, grown}
 use Rattle.graph.specs.Lookups.{star_owner, import_owner, export_owner}
-use Rattle.graph.specs.Rules.{name_sized, id_sized, kind_numbered, of_kind, name_entry, module_entry, misnamed, over_limit, unknown_name, given_twice, wrong_owner, aim_refusal, placed, unless, and_then}
+use Rattle.graph.specs.Rules.{name_sized, id_sized, kind_numbered, of_kind, name_entry, module_entry, misnamed, over_limit, unknown_name, given_twice, wrong_owner, aim_refusal, unless, and_then}
 use Rattle.graph.specs.Opening.{Placed, latest, owner_behind, falls_behind, misplaced, unknown_owner, entry_refusal, content_refusal, with_content, refusal, with_record, gathered, content_aim, aims, no_name, finished, opened, or_only_default}
 use Rattle.graph.specs.Soundness.{EsModule, Sized, Sound}
-use Rattle.graph.proofs.Finding.{or_last}
 use Rattle.graph.proofs.Pushing.{all_by_steps, cond_none, either_none, unless_ok, sized_told, kind_inside, SoFar, Formed, Behind, nothing_so_far, so_far_push, so_far_sound, default_sound}
 
 -- what was read, where it could be read, is well formed

@@ -1,8 +1,5 @@
 -- Opening: records are checked one by one, each behind those before it. They come to a graph, or to the first fault.
 use Rattle.std.specs.Prelude.{ℕ, ◌-◌, Bool, false, cond, not, ◌||◌, List, [], ◌∷◌, length, Some, None, Ok, Err, Option, Result, ◌==◌, nat_le, nat_lt}
-use Rattle.graph.specs.declared.records.Star.{Star}
-use Rattle.graph.specs.declared.records.Import.{Import}
-use Rattle.graph.specs.declared.records.Export.{Export}
 use Rattle.graph.specs.declared.fault.Fault.{Fault}
 use Rattle.graph.specs.declared.fault.Layer.{Layer}
 use Rattle.graph.specs.declared.fault.Reason.{Reason}

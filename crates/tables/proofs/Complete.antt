@@ -1,5 +1,5 @@
 -- Lists that can be read, and whose graph is sound, open.
-use Rattle.std.proofs.Common.{◌≡◌, ℕ, ◌+◌, ◌<◌, ◌≤◌, Bool, true, false, cond, not, ◌&&◌, ◌||◌, eqb, leb, List, [], ◌∷◌, ◌++◌, map, length, is_some, is_ok, Some, None, Ok, Err, Option, Result, sym, refl, ap, ◌∙◌, subst, ⊎_elim, arith, MatchResult}
+use Rattle.std.proofs.Common.{◌≡◌, ℕ, ◌<◌, ◌≤◌, Bool, true, false, ◌&&◌, eqb, leb, List, [], ◌∷◌, ◌++◌, map, length, is_some, is_ok, Some, None, Ok, Err, Option, Result, sym, refl, ap, ◌∙◌, subst, ⊎_elim, arith, MatchResult}
 use Rattle.std.specs.List.{slice_get, AllByRecursion}
 use Rattle.std.specs.Str.{bytes_eq}
 use Rattle.std.proofs.ByRecursion.{All-weaker}
@@ -19,16 +19,17 @@ use Rattle.graph.specs.declared.records.Import.{Import}
 use Rattle.graph.specs.declared.records.Export.{Export}
 use Rattle.graph.specs.Graphs.{Graph, no_records, default_name}
 use Rattle.graph.specs.Entries.{Entry, a_name, a_module}
-use Rattle.graph.specs.Lookups.{first_keyed, star_owner, import_owner, import_symbol, export_owner, export_name, export_symbol, kind_in}
+use Rattle.graph.specs.Lookups.{first_keyed, star_owner, import_owner, import_symbol, export_owner, export_name, kind_in}
 use Rattle.graph.specs.Rules.{listed, wrong_name, wants_unknown, is_es, is_external, owned_refusal, aim_refusal, wanted_numbered}
-use Rattle.graph.specs.Opening.{falls_behind, content_refusal, gathered}
-use Rattle.graph.specs.Soundness.{Pairwise, Rising, EsModule, NotExternal, Known, Sound}
-use Rattle.graph.proofs.Pushing.{kind_inside, all-from-map}
+use Rattle.graph.specs.Opening.{content_refusal, gathered}
+use Rattle.graph.specs.Soundness.{Pairwise, Rising, EsModule, Known, Sound}
+use Rattle.graph.proofs.Pushing.{kind_inside}
+use Rattle.graph.proofs.Keyed.{all_from_map}
 use Rattle.tables.specs.declared.lists.Span.{Span}
 use Rattle.tables.specs.declared.lists.ModuleRow.{ModuleRow}
 use Rattle.tables.specs.declared.lists.ImportRow.{ImportRow}
 use Rattle.tables.specs.Spans.{bytes_in}
-use Rattle.tables.specs.Rows.{Held, star_entry, import_entry, rows_from, no_owner, star_writes, import_writes, export_writes, name_content, module_content, star_content, import_content, export_content, module_place, star_place, import_place, export_place, records, module_of, import_of, with_names, with_modules, with_stars, with_imports, with_exports, meant}
+use Rattle.tables.specs.Rows.{Held, star_entry, import_entry, no_owner, star_writes, import_writes, export_writes, name_content, module_content, star_content, import_content, export_content, module_place, star_place, import_place, export_place, records, module_of, import_of, with_names, with_modules, with_stars, with_imports, with_exports, meant}
 use Rattle.tables.specs.Readable.{Readable}
 use Rattle.tables.specs.Staging.{Grows, Passed}
 use Rattle.tables.specs.Opening.{opened}
@@ -38,7 +39,7 @@ use Rattle.tables.specs.Growing.{name_told, module_told, names_grow, modules_gro
 use Rattle.graph.proofs.Firstly.{ok_not_err}
 use Rattle.tables.proofs.Meaning.{then_parts, gathered_readable, meant_sound}
 use Rattle.tables.proofs.Opened.{to_exports, imports_tell, aims_well}
-use Rattle.tables.proofs.Refused.{row_owner, row_symbol, star_same, import_same, export_same}
+use Rattle.tables.proofs.Refused.{star_same, import_same, export_same}
 
 -- what holds of a whole list, at one of its elements
 module _ {X : Type 0} where
@@ -189,7 +190,7 @@ module _ (h : Held) (readable : Readable h) (sound : Sound (meant h)) where
       inner (Some kind.Empty) never = refl
 
   import_aims_well : AllByRecursion (λ (i : ImportRow). aim_refusal (meant h) (import_entry i) ≡ None) h.imports
-  import_aims_well = All-weaker _ _ (λ i inside. cond-false _ _ _ (lt-leb (length (meant h).modules) i.target inside)) h.imports (all-from-map (λ (i : Import). i.target < length (meant h).modules) import_of h.imports sound.import_targets)
+  import_aims_well = All-weaker _ _ (λ i inside. cond-false _ _ _ (lt-leb (length (meant h).modules) i.target inside)) h.imports (all_from_map (λ (i : Import). i.target < length (meant h).modules) import_of h.imports sound.import_targets)
 
   some_name : 0 < length h.names
   some_name = by_names h.names sound.first_name

@@ -1,5 +1,5 @@
 -- The graph of tables that open.
-use Rattle.std.proofs.Common.{◌≡◌, ℕ, ◌+◌, true, List, [], ◌∷◌, ◌++◌, is_ok, Some, None, Ok, Err, Option, Result, sym, refl, ap, ◌∙◌, subst}
+use Rattle.std.proofs.Common.{◌≡◌, ℕ, ◌+◌, true, List, [], ◌∷◌, ◌++◌, is_ok, Some, None, Ok, Err, Option, Result, refl, ap, ◌∙◌, subst}
 use Rattle.std.specs.List.{AllByRecursion}
 use Rattle.std.proofs.lemmas.Bool.{false≢true}
 use Rattle.graph.specs.declared.fault.Fault.{Fault}
@@ -7,14 +7,13 @@ use Rattle.graph.specs.declared.fault.Layer.TheVariants as layer
 use Rattle.graph.specs.declared.fault.Reason.{Reason}
 use Rattle.graph.specs.Graphs.{Graph, no_records}
 use Rattle.graph.specs.Entries.{Entry}
-use Rattle.graph.specs.Lookups.{star_owner, export_owner}
 use Rattle.graph.specs.Rules.{unless, and_then}
 use Rattle.graph.specs.Opening.{Placed, content_refusal, gathered, aims, no_name, finished, or_only_default}
-use Rattle.graph.specs.Soundness.{Rising, Sound}
+use Rattle.graph.specs.Soundness.{Sound}
 use Rattle.graph.proofs.Firstly.{gathered_split}
-use Rattle.tables.specs.Rows.{Held, rows_from, no_owner, star_writes, import_writes, export_writes, name_content, module_content, star_content, import_content, export_content, module_place, star_place, import_place, export_place, record_count, name_rows, module_rows, star_rows, import_rows, export_rows, records, with_names, with_modules, with_stars, with_imports, with_exports, meant}
+use Rattle.tables.specs.Rows.{Held, rows_from, no_owner, star_writes, import_writes, export_writes, name_content, module_content, star_content, import_content, export_content, module_place, star_place, import_place, export_place, record_count, name_rows, module_rows, records, with_names, with_modules, with_stars, with_imports, with_exports, meant}
 use Rattle.tables.specs.Readable.{Readable}
-use Rattle.tables.specs.Staging.{Grows, checked}
+use Rattle.tables.specs.Staging.{Grows}
 use Rattle.tables.specs.Opening.{opened, graph_of}
 use Rattle.tables.proofs.Staged.{first_passes, stage_meant}
 use Rattle.tables.specs.Growing.{names_grow, modules_grow, imports_grow}

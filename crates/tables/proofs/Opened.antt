@@ -1,5 +1,5 @@
 -- Opening tables, from the checks of each list.
-use Rattle.std.proofs.Common.{◌≡◌, ℕ, ◌+◌, ◌<◌, cond, eqb, List, [], ◌∷◌, ◌++◌, length, Some, None, Ok, Err, Option, Result, sym, refl, ap, ◌∙◌, subst, append_assoc, arith, MatchResult}
+use Rattle.std.proofs.Common.{◌≡◌, ℕ, ◌+◌, ◌<◌, List, [], ◌∷◌, ◌++◌, length, Some, None, Ok, Err, Option, Result, sym, refl, ap, ◌∙◌, append_assoc, arith, MatchResult}
 use Rattle.std.specs.List.{AllByRecursion}
 use Rattle.std.proofs.ByRecursion.{All-append}
 use Rattle.std.proofs.lemmas.List.{length-map}
@@ -10,12 +10,11 @@ use Rattle.graph.specs.declared.fault.Layer.TheVariants as layer
 use Rattle.graph.specs.declared.fault.Reason.{Reason}
 use Rattle.graph.specs.declared.fault.Reason.TheVariants.{BadName}
 use Rattle.graph.specs.Graphs.{Graph, no_records}
-use Rattle.graph.specs.Entries.{Entry, a_name, a_module, a_star, an_import, an_export}
-use Rattle.graph.specs.Rules.{Given, aim_cases, aim_refusal, wanted_numbered, placed, either_fault, unless, and_then}
-use Rattle.graph.specs.Opening.{Placed, fault_in, gathered, aims, no_name, finished, or_only_default}
+use Rattle.graph.specs.Entries.{Entry, a_name, a_module}
+use Rattle.graph.specs.Rules.{Given, aim_cases, aim_refusal, placed, either_fault, unless, and_then}
+use Rattle.graph.specs.Opening.{Placed, fault_in, gathered, aims, finished, or_only_default}
 use Rattle.graph.specs.Foremost.{AimsWell}
 use Rattle.graph.specs.Soundness.{Sound}
-use Rattle.graph.proofs.Numbering.{wanted_again}
 use Rattle.graph.proofs.Rising.{all_any}
 use Rattle.graph.proofs.Foremost.{none_given}
 use Rattle.graph.proofs.Firstly.{gathered_past, gathered_ends, aims_past, first_from_err, err_from_first, first_from_opened}
@@ -24,9 +23,6 @@ use Rattle.tables.specs.Rows.{Held, star_entry, import_entry, export_entry, rows
 use Rattle.tables.specs.Spans.{inside, bytes_in}
 use Rattle.tables.specs.Staging.{checked, Passed, Tells, aims_of, AimsTold}
 use Rattle.tables.specs.Opening.{opened, FirstFault}
-use Rattle.tables.specs.declared.lists.ImportRow.{ImportRow}
-use Rattle.graph.specs.declared.records.Star.{Star}
-use Rattle.graph.specs.declared.records.Export.{Export}
 use Rattle.tables.specs.Growing.{name_told, module_told}
 
 -- the first fault in two lists of records, where the first list can be read
@@ -140,7 +136,7 @@ module _ (h : Held) where
       All-append FormedRecord (name_rows h) _ (all_rows FormedContent no_owner (name_content h.bytes) (λ s. formed_either (inside h.bytes s) _ _ (formed_name (bytes_in h.bytes s)) tt) 0 h.names)
       (All-append FormedRecord (module_rows h) _ (all_rows FormedContent no_owner (module_content h.bytes) (λ m. formed_either (inside h.bytes m.id) _ _ (formed_module m.kind (bytes_in h.bytes m.id)) tt) (module_place h) h.modules)
       (All-append FormedRecord (star_rows h) _ (all_rows FormedContent star_writes (star_content h.bytes) (λ _. tt) (star_place h) h.stars)
-      (All-append FormedRecord (import_rows h) _ (all_rows FormedContent import_writes (import_content h.bytes) (λ i. wanted_again i.name) (import_place h) h.imports)
+      (All-append FormedRecord (import_rows h) _ (all_rows FormedContent import_writes (import_content h.bytes) (λ _. tt) (import_place h) h.imports)
       (all_rows FormedContent export_writes (export_content h.bytes) (λ _. tt) (export_place h) h.exports))))
 
   pub graph_sound : Sound (or_only_default (opened h))

@@ -1,8 +1,8 @@
 -- Why a record of each list is refused, by what the lists hold.
-use Rattle.std.proofs.Common.{◌≡◌, ℕ, ◌+◌, ◌≤◌, Bool, true, false, cond, ◌||◌, leb, List, [], ◌∷◌, ◌++◌, map, length, is_some, Some, None, Ok, Err, Option, Result, sym, refl, ap, ◌∙◌, subst, append_assoc}
-use Rattle.std.specs.Option.{option_map}
+use Rattle.std.proofs.Common.{◌≡◌, ℕ, ◌+◌, ◌≤◌, Bool, true, false, cond, ◌||◌, leb, List, [], ◌∷◌, ◌++◌, map, length, is_some, Some, None, Ok, Option, Result, sym, ap, ◌∙◌, subst, append_assoc}
 use Rattle.std.proofs.lemmas.List.{length-map, append-nil}
 use Rattle.std.proofs.lemmas.Bool.{cond-true, and_from, le-leb}
+use Rattle.graph.proofs.Keyed.{symbol_keyed}
 use Rattle.graph.specs.declared.fault.Layer.TheVariants as layer
 use Rattle.graph.specs.declared.fault.Reason.{Reason}
 use Rattle.graph.specs.declared.fault.Reason.TheVariants.{OverLimit}
@@ -65,7 +65,7 @@ module _ (h : Held) where
   import_same before i = rw (falls_map import_of import_owner before i.owner, length-map before import_of, length-map h.modules (module_of h.bytes), length-map h.names (bytes_in h.bytes), first_map import_of import_owner import_symbol before i.owner i.symbol, some_mapped import_of (first_keyed row_owner row_symbol before i.owner i.symbol))
 
   pub export_same : (before : List Export) (e : Export) → owned_refusal (falls_behind export_owner before e.owner) (length before) (leb (length h.modules) e.owner || leb (length h.names) e.name) (is_some (first_keyed export_owner export_name before e.owner e.name)) (owner_es e.owner) ≡ content_refusal (with_exports h before) (export_writes e) (export_content h.bytes e)
-  export_same before e = rw (length-map h.modules (module_of h.bytes), length-map h.names (bytes_in h.bytes), some_mapped export_symbol (first_keyed export_owner export_name before e.owner e.name))
+  export_same before e = rw (length-map h.modules (module_of h.bytes), length-map h.names (bytes_in h.bytes), symbol_keyed before e.owner e.name, some_mapped export_symbol (first_keyed export_owner export_name before e.owner e.name))
 
   -- the same, by what the checks were told
   pub star_refused : (before : List Star) (s : Star) (first : ℕ) (r : Option Reason) → (Rising star_owner before → r ≡ owned_refusal (falls_behind star_owner before s.owner) (length before) (leb (length h.modules) s.owner || false) false (owner_es s.owner)) → Passed star_writes (star_content h.bytes) (with_stars h) first before → r ≡ content_refusal (with_stars h before) (star_writes s) (star_content h.bytes s)

@@ -1,14 +1,12 @@
 -- The checks of a list, record by record.
-use Rattle.std.proofs.Common.{◌≡◌, ℕ, ◌+◌, ◌<◌, ◌≤◌, true, false, List, [], ◌∷◌, ◌++◌, length, get_or, take, drop, Some, None, Ok, Err, Option, Result, sym, refl, ap, ◌∙◌, subst, append_assoc, arith}
+use Rattle.std.proofs.Common.{◌≡◌, ℕ, ◌+◌, ◌<◌, ◌≤◌, List, [], ◌∷◌, ◌++◌, length, get_or, take, drop, Some, None, Ok, Err, Option, Result, sym, refl, ap, ◌∙◌, subst, append_assoc, arith}
 use Rattle.std.proofs.lemmas.List.{append-nil, take-append-drop, take_all, take_more, drop_more, length-take-le}
-use Rattle.graph.specs.declared.fault.Fault.{Fault}
-use Rattle.graph.specs.declared.fault.Layer.{Layer}
 use Rattle.graph.specs.declared.fault.Layer.TheVariants as layer
 use Rattle.graph.specs.declared.fault.Reason.{Reason}
 use Rattle.graph.specs.Graphs.{Graph}
 use Rattle.graph.specs.Entries.{Entry}
 use Rattle.graph.specs.Rules.{placed, unless}
-use Rattle.graph.specs.Opening.{Placed, content_refusal, with_content, fault_in, gathered}
+use Rattle.graph.specs.Opening.{content_refusal, with_content, fault_in, gathered}
 use Rattle.graph.proofs.Pushing.{unless_ok}
 use Rattle.graph.proofs.Firstly.{gathered_past}
 use Rattle.tables.specs.Rows.{rows_from}

@@ -1,5 +1,5 @@
 -- The last checks of a list, record by record.
-use Rattle.std.proofs.Common.{◌≡◌, ℕ, ◌+◌, ◌<◌, ◌≤◌, cond, leb, List, ◌∷◌, map, length, get_or, drop, Some, None, Ok, Option, sym, ap, ◌∙◌, arith}
+use Rattle.std.proofs.Common.{◌≡◌, ℕ, ◌+◌, ◌<◌, ◌≤◌, cond, leb, List, ◌∷◌, map, length, get_or, drop, Some, None, Option, sym, ap, ◌∙◌, arith}
 use Rattle.std.proofs.lemmas.List.{length-map, drop_more, at_drop_all}
 use Rattle.std.proofs.lemmas.Bool.{cond-true, cond-false, le-leb, lt-leb}
 use Rattle.graph.specs.declared.fault.Layer.TheVariants as layer
@@ -12,7 +12,7 @@ use Rattle.graph.specs.Rules.{aim_refusal, star_aim, placed, either_fault}
 use Rattle.graph.specs.Opening.{fault_in}
 use Rattle.graph.proofs.Aiming.{star_aims}
 use Rattle.tables.specs.declared.lists.ModuleRow.{ModuleRow}
-use Rattle.tables.specs.Rows.{Held, rows_from, module_of, meant}
+use Rattle.tables.specs.Rows.{Held, module_of, meant}
 use Rattle.tables.specs.Staging.{aims_of}
 
 module _ {X : Type 0} (h : Held) (owner : X → Option ℕ) (entry : X → Entry) (first : ℕ) (rows : List X) (i : ℕ) where

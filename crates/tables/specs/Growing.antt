@@ -1,5 +1,5 @@
 -- One record more of each list.
-use Rattle.std.specs.Prelude.{◌≡◌, ℕ, true, false, List, [], ◌∷◌, ◌++◌, map, Some, None, Ok, Err, Option, Result, refl}
+use Rattle.std.specs.Prelude.{◌≡◌, ℕ, List, [], map, Some, None, Ok, Err, Option, Result}
 use Rattle.std.proofs.Common.{sym, ◌∙◌, ap}
 use Rattle.std.specs.Option.{unwrap_or}
 use Rattle.std.proofs.lemmas.List.{map_push}
@@ -8,13 +8,12 @@ use Rattle.graph.specs.declared.fault.Reason.{Reason}
 use Rattle.graph.specs.declared.fault.Reason.TheVariants.{Malformed}
 use Rattle.graph.specs.declared.records.Kind.{Kind}
 use Rattle.graph.specs.declared.records.Kind.TheVariants as kind
-use Rattle.graph.specs.Graphs.{Graph, Module}
+use Rattle.graph.specs.Graphs.{Module}
 use Rattle.graph.specs.Entries.{Entry, a_name, a_module, an_import}
 use Rattle.graph.specs.Rules.{name_sized, id_sized, kind_numbered, of_kind, name_entry, module_entry, wanted_numbered}
 use Rattle.graph.specs.Opening.{with_content}
 use Rattle.tables.specs.declared.lists.Span.{Span}
 use Rattle.tables.specs.declared.lists.ModuleRow.{ModuleRow}
-use Rattle.tables.specs.declared.lists.ImportRow.{ImportRow}
 use Rattle.tables.specs.Spans.{inside, bytes_in}
 use Rattle.tables.specs.Rows.{Held, no_owner, name_content, module_content, import_writes, import_content, module_of, import_of, with_names, with_modules, with_imports}
 use Rattle.tables.specs.Staging.{Grows}

@@ -46,7 +46,7 @@ pub(crate) fn check_aims<R: Aimed>(
     first: usize,
 ) -> Result<(), Fault>
     requires { first + length rows.now < 2 ^ 64 }
-    ensures { (h : Held) → h.modules ≡ modules.now → (owner : R → Option ℕ) → AimsTold h owner entry first rows.now result }
+    ensures { (h : Held) → h.modules ≡ modules.now → (owner : R → Option ℕ) → AimsTold h owner R.entry first rows.now result }
 {
     for (i, row) in rows.iter().enumerate() {
         if let Some(reason) = row.aim(modules) {

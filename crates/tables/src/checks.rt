@@ -19,7 +19,7 @@ use graph::fault::{Fault, Reason};
 // Checks the records of a list one by one, where `first` records stand in the lists before it.
 fn check_rows<R: Row>(lists: Lists, rows: &[R], first: usize) -> Result<(), Fault>
     requires { first + length rows.now < 2 ^ 64 }
-    ensures { Tells writes (content (held lists.entry).bytes) (stage (held lists.entry)) first rows.now result }
+    ensures { Tells R.writes (R.content (held lists.entry).bytes) (R.stage (held lists.entry)) first rows.now result }
 {
     for (i, row) in rows.iter().enumerate() {
         if let Some(reason) = row.refusal(lists, &rows[0..i]) {

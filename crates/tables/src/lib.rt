@@ -1,4 +1,6 @@
 // Tables: a module graph written as five lists of records.
+#![tactic(auto)]
+
 mod aims;
 mod checks;
 mod fault;

@@ -24,7 +24,7 @@ impl Keyed for ImportRow {
 
 // Whether owners fall behind these records, in which they do not.
 pub(crate) fn falls_behind<T: Owned>(before: &[T], owner: u16) -> bool
-    ensures { Rising belongs before.now → result ≡ falls_behind belongs before.now owner }
+    ensures { Rising T.belongs before.now → result ≡ falls_behind T.belongs before.now owner }
 {
     if before.is_empty() {
         return false;

@@ -14,7 +14,7 @@ use super::owners::falls_behind;
 use super::row::Row;
 use graph::fault::Reason;
 use graph::limits::{LONGEST_ID, MOST_MODULES};
-use graph::lookups::{ExportKeyed, ExportOwned, Keyed, Owned, StarOwned, find_of};
+use graph::lookups::{Keyed, Owned, find_of};
 use graph::records::{Export, Kind, Star, Wanted};
 use graph::rules::{is_es, owned_refusal};
 
@@ -27,7 +27,7 @@ fn refusal_behind<T: Owned>(
     nameless: bool,
     twice: bool,
 ) -> Option<Reason>
-    ensures { Rising belongs before.now → result ≡ owned_refusal (falls_behind belongs before.now owner) (length before.now) (nat_le (length (held lists.entry).modules) owner || nameless) twice (is_es (kind_in (map (module_of (held lists.entry).bytes) (held lists.entry).modules) owner)) }
+    ensures { Rising T.belongs before.now → result ≡ owned_refusal (falls_behind T.belongs before.now owner) (length before.now) (nat_le (length (held lists.entry).modules) owner || nameless) twice (is_es (kind_in (map (module_of (held lists.entry).bytes) (held lists.entry).modules) owner)) }
 {
     let falls = falls_behind(before, owner);
     let owner = usize::from(owner);

@@ -10,7 +10,7 @@ ghost use Rattle.tables.specs.Borrowed.{held};
 ghost use Rattle.tables_text.specs.Arranging.{records_of, arranged};
 
 use super::shown::push_all;
-use graph::lookups::{ExportOwned, Owned, StarOwned, records_of};
+use graph::lookups::{Owned, records_of};
 use sheet::field::Field;
 use sheet_text::page::Page;
 use std::alloc::{AllocError, Global};

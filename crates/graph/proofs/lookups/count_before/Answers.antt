@@ -1,4 +1,4 @@
-use Rattle.std.proofs.Common.{◌≡◌, ◌-◌, ◌<◌, ◌≤◌, take, drop, arith}
+use Rattle.std.proofs.Common.{take, drop, arith}
 use Rattle.std.proofs.ByRecursion.{All-weaker}
 use Rattle.graph.proofs.Rising.{all_any}
 use Rattle.graph.proofs.lookups.count_before.Goals as goal

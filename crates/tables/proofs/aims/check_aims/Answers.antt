@@ -1,4 +1,4 @@
-use Rattle.std.proofs.Common.{◌+◌, drop, Some, sym, ap, ◌∙◌, arith}
+use Rattle.std.proofs.Common.{Some, sym, ap, ◌∙◌, arith}
 use Rattle.tables.specs.Staging.{aims_of}
 use Rattle.tables.proofs.Targets.{aim_stops, aim_passes, aims_end}
 use Rattle.tables.proofs.aims.check_aims.Goals as goal

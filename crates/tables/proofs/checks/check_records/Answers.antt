@@ -1,3 +1,4 @@
+use Rattle.std.proofs.Common.{arith}
 use Rattle.std.proofs.lemmas.Result.{err_from_is_err_and}
 use Rattle.tables.specs.Borrowed.{held}
 use Rattle.tables.proofs.Opened.{names_end, modules_end, stars_end, imports_end, exports_tell}
@@ -25,3 +26,6 @@ returns-in_err-check_rows-3 c =
 
 pub returns : goal.returns
 returns c = exports_tell (held c.args.lists) c.in_ok-check_names.ensures c.in_ok-check_rows.ensures c.in_ok-check_rows-2.ensures c.in_ok-check_rows-3.ensures c.check_rows-4.result c.check_rows-4.ensures
+
+pub check_rows-requires-4 : goal.check_rows-requires-4
+check_rows-requires-4 c = omega arith

@@ -6,16 +6,16 @@ use Rattle.tables.specs.Rows.{star_writes, import_writes}
 use Rattle.tables.proofs.Opened.{nameless, stars_miss, imports_tell}
 use Rattle.tables.proofs.checks.finish.Goals as goal
 
-pub returns-then-is-empty : goal.returns-then-is-empty
-returns-then-is-empty c = λ passed. nameless (held c.args.lists) passed (eqb-true _ 0 (sym c.if-is-empty.ensures)) ∙ ap (λ f. Err f) (sym c.tables_fault.ensures)
+pub returns-then-is_empty : goal.returns-then-is_empty
+returns-then-is_empty c = λ passed. nameless (held c.args.lists) passed (eqb-true _ 0 (sym c.if-is_empty.ensures)) ∙ ap (λ f. Err f) (sym c.tables_fault.ensures)
 
 pub returns-in_err-check_aims : goal.returns-in_err-check_aims
 returns-in_err-check_aims c = λ passed.
-    let some : 0 < length c.args.lists.names.now = omega (arith, eqb-false _ 0 (sym c.if-is-empty.ensures)) in
+    let some : 0 < length c.args.lists.names.now = omega (arith, eqb-false _ 0 (sym c.if-is_empty.ensures)) in
     let p = err_from_is_err_and c.from_residual.result c.from_residual.ensures.1 in
     rw (p.1, p.2) (stars_miss (held c.args.lists) passed some _ (c.in_err-check_aims.ensures (held c.args.lists) refl star_writes))
 
 pub returns : goal.returns
 returns c = λ passed.
-    let some : 0 < length c.args.lists.names.now = omega (arith, eqb-false _ 0 (sym c.if-is-empty.ensures)) in
+    let some : 0 < length c.args.lists.names.now = omega (arith, eqb-false _ 0 (sym c.if-is_empty.ensures)) in
     imports_tell (held c.args.lists) passed some (c.in_ok-check_aims.ensures (held c.args.lists) refl star_writes) c.check_aims-2.result (c.check_aims-2.ensures (held c.args.lists) refl import_writes)

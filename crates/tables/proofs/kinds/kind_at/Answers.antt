@@ -1,7 +1,7 @@
-use Rattle.std.proofs.Common.{Some, None, Option, sym, ap, ◌∙◌}
+use Rattle.std.proofs.Common.{Some, sym, ap, ◌∙◌}
 use Rattle.std.specs.Option.{option_map}
 use Rattle.graph.specs.Lookups.{kind_of}
-use Rattle.graph.proofs.Finding.{nth_map}
+use Rattle.graph.proofs.Keyed.{nth_map}
 use Rattle.tables.specs.Rows.{module_of}
 use Rattle.tables.proofs.kinds.kind_at.Goals as goal
 

@@ -1,7 +1,6 @@
-use Rattle.std.proofs.Common.{◌≡◌, ◌≤◌, length, sym, ap, ◌∙◌, arith}
+use Rattle.std.proofs.Common.{length, sym, ap, ◌∙◌, arith}
 use Rattle.std.proofs.lemmas.Bool.{cond-true, cond-false, le-leb, lt-leb}
 use Rattle.tables.specs.Borrowed.{held}
-use Rattle.tables.specs.Spans.{bytes_in}
 use Rattle.tables.proofs.Refused.{module_refused}
 use Rattle.tables.proofs.rows.ModuleRowRow.refusal.Goals as goal
 
