@@ -4,7 +4,7 @@ ghost use Rattle.tables.specs.Borrowed.{held};
 
 use super::opened::Tables;
 use graph::lookups::{
-    ExportKeyed, ExportOwned, Keyed, Owned, StarOwned, element_at, find_of, nth_of,
+    Keyed, Owned, element_at, find_of, nth_of,
 };
 use graph::records::{Export, Import, Kind};
 use graph::source::ModuleSource;
