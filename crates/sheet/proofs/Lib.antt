@@ -1,5 +1,6 @@
 pub mod Reading
 pub mod Stepping
+pub mod Remaining
 pub mod Naming
 pub mod Refusing
 pub mod Advancing

@@ -19,7 +19,7 @@ use Rattle.sheet.specs.Fields.{next_at, payload_at, field_at, content, as_name, 
 use Rattle.sheet.specs.Opening.{Placed, fields_from, fields_at, latest, misplaced, entry_refusal, field_refusal, with_field, gathered, field_aim, aims, too_long, no_name, finished, opened, or_only_default, graph_of}
 
 -- the name or the id of a field, where it has one, has the right size
-abbrev FormedField : Result Entry Reason → Type 0
+abbrev pub FormedField : Result Entry Reason → Type 0
 FormedField (Ok e) = Formed e
 FormedField (Err reason) = Unit {0}
 
@@ -45,7 +45,7 @@ formed_content tag payload =
     (formed_either (eqb tag 4) _ _ (formed_either (eqb (length payload) 6) _ _ tt tt)
     (formed_either (eqb tag 5) _ _ (formed_either (eqb (length payload) 4) _ _ tt tt) tt))))
 
-formed_at : (bytes : List ℕ) (p : ℕ) → FormedField (field_at bytes p)
+pub formed_at : (bytes : List ℕ) (p : ℕ) → FormedField (field_at bytes p)
 formed_at bytes p = formed_either (ltb (length bytes) (p + 3)) _ _ tt (formed_either (ltb (length bytes) (next_at bytes p)) _ _ tt (formed_content (get_or bytes p 0) (payload_at bytes p)))
 
 formed_all : (steps : ℕ) (bytes : List ℕ) (p : ℕ) → AllByRecursion (λ (f : Placed). FormedField f.content) (fields_from steps bytes p)

@@ -159,7 +159,7 @@ module _ (bytes : List ℕ) (opens : is_ok (opened bytes) ≡ true) where
   pub sheet_short : length bytes ≤ 60000
   sheet_short = (opened_built bytes (graph_of bytes) is_opened).1
 
-  sheet_built : graph_of bytes ≡ built no_records (entries bytes)
+  pub sheet_built : graph_of bytes ≡ built no_records (entries bytes)
   sheet_built = (opened_built bytes (graph_of bytes) is_opened).0
 
   kinds_are : map kind_of (graph_of bytes).modules ≡ chosen (λ (x : Owned). entry_kind x.entry) (owned 0 (entries bytes))

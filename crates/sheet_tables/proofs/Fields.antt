@@ -5,15 +5,16 @@ use Rattle.graph.specs.declared.fault.Reason.{Reason}
 use Rattle.graph.specs.declared.fault.Reason.TheVariants.{Malformed}
 use Rattle.graph.specs.declared.records.Kind.{Kind}
 use Rattle.graph.specs.Entries.{Entry, a_name, a_module, a_star, an_import, an_export}
-use Rattle.graph.specs.Rules.{name_sized, id_sized, kind_numbered, name_entry, module_entry, of_kind}
-use Rattle.sheet.specs.Fields.{next_at, payload_at, field_at, content, as_module}
+use Rattle.graph.specs.Rules.{name_sized, id_sized, kind_numbered, wanted_number, wanted_numbered}
+use Rattle.graph.proofs.Numbering.{wanted_again}
+use Rattle.sheet.specs.Fields.{two, next_at, payload_at, field_at, content, of_kind}
 
--- the bytes of a record are those of its payload, for a module behind the kind
+-- the bytes of a record are those of its payload, for a module behind the kind; what an import wants has a number
 abbrev pub Says : List ℕ → Entry → Type 0
 Says payload (a_name bytes) = bytes ≡ payload
 Says payload (a_module kind id) = id ≡ drop 1 payload
 Says payload (a_star target) = Unit {0}
-Says payload (an_import symbol target wanted) = Unit {0}
+Says payload (an_import symbol target wanted) = wanted_numbered (wanted_number wanted) ≡ wanted
 Says payload (an_export name symbol) = Unit {0}
 
 abbrev pub SaysContent : List ℕ → Result Entry Reason → Type 0
@@ -33,7 +34,7 @@ module _ (payload : List ℕ) where
       either (eqb tag 1) _ _ (either (name_sized payload) _ _ refl tt)
       (either (eqb tag 2) _ _ (either (id_sized (drop 1 payload)) _ _ (of_either (kind_numbered (get_or payload 0 0))) tt)
       (either (eqb tag 3) _ _ (either (eqb (length payload) 2) _ _ tt tt)
-      (either (eqb tag 4) _ _ (either (eqb (length payload) 6) _ _ tt tt)
+      (either (eqb tag 4) _ _ (either (eqb (length payload) 6) _ _ (wanted_again (two payload 4)) tt)
       (either (eqb tag 5) _ _ (either (eqb (length payload) 4) _ _ tt tt) tt))))
 
 pub field_says : (bytes : List ℕ) (p : ℕ) → SaysContent (payload_at bytes p) (field_at bytes p)

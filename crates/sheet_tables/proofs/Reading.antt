@@ -15,7 +15,6 @@ use Rattle.graph.specs.Opening.{latest, or_only_default}
 use Rattle.graph.specs.Soundness.{Sized, Sound}
 use Rattle.graph.proofs.Numbering.{kind_again}
 use Rattle.graph.proofs.Pushing.{Formed}
-use Rattle.graph.proofs.Soundly.{FormedContent}
 use Rattle.sheet.specs.declared.field.Field.{Field}
 use Rattle.sheet.specs.declared.field.Field.TheVariants as field
 use Rattle.sheet.specs.Fields.{two, next_at, payload_at, field_at}
@@ -23,7 +22,7 @@ use Rattle.sheet.specs.Borrowed.{entry_of, Begins}
 use Rattle.sheet.specs.Opening.{entries}
 use Rattle.sheet.specs.Opening as sheets
 use Rattle.sheet.proofs.Remaining.{remaining, remaining_more}
-use Rattle.sheet.proofs.Soundly.{formed_at, graph_sound}
+use Rattle.sheet.proofs.Soundly.{FormedField, formed_at, graph_sound}
 use Rattle.sheet_source.proofs.Answering.{built, sheet_built}
 use Rattle.tables.specs.declared.lists.Span.{Span}
 use Rattle.tables.specs.declared.lists.ModuleRow.{ModuleRow}
@@ -59,7 +58,7 @@ module _ (bytes : List ℕ) (p : ℕ) (h : Held) (so : SoFar bytes p h) (inside 
   -- what a field says, by its payload
   module _ (e : Entry) (read : field_at bytes p ≡ Ok e) where
     formed : Formed e
-    formed = subst FormedContent read (formed_at bytes p)
+    formed = subst FormedField read (formed_at bytes p)
 
     says : Says (payload_at bytes p) e
     says = subst (SaysContent (payload_at bytes p)) read (field_says bytes p)
@@ -130,7 +129,7 @@ module _ (bytes : List ℕ) (p : ℕ) (h : Held) (so : SoFar bytes p h) (inside 
     on = on_step (field.Import symbol target wanted) next read next_is (ap (λ (l : List Import). record { names = (meant h).names; modules = (meant h).modules; stars = (meant h).stars; imports = l; exports = (meant h).exports }) (
         map_push import_of h.imports _
         ∙ ap (λ o. map import_of h.imports ++ (record { owner = o; symbol = symbol; target = target; wanted = wanted_numbered (wanted_number wanted) } ∷ [])) latest_is
-        ∙ ap (λ w. map import_of h.imports ++ (record { owner = latest (meant h); symbol = symbol; target = target; wanted = w } ∷ [])) (formed (an_import symbol target wanted) read)));
+        ∙ ap (λ w. map import_of h.imports ++ (record { owner = latest (meant h); symbol = symbol; target = target; wanted = w } ∷ [])) (says (an_import symbol target wanted) read)));
     few = omega (arith, so.few, next_is);
     within = omega (arith, next_is);
   }
