@@ -1,6 +1,8 @@
 // Opens the sheets and tables of a list from standard input, and tells which answers are not
 // the expected ones. tools/sheet_cases.py and tools/tables_cases.py write the list and say how
 // a line reads.
+#![tactic(auto)]
+
 mod bytes;
 mod cases;
 mod items;

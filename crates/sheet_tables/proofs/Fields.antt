@@ -1,8 +1,7 @@
 -- Where the bytes of a name or an id stand in its sheet.
-use Rattle.std.proofs.Common.{◌≡◌, ℕ, zero, suc, ◌+◌, Bool, cond, eqb, ltb, List, [], ◌∷◌, length, get_or, take, drop, Some, None, Ok, Err, Option, Result, sym, refl, ap, ◌∙◌}
+use Rattle.std.proofs.Common.{◌≡◌, ℕ, zero, suc, ◌+◌, Bool, cond, eqb, ltb, List, [], ◌∷◌, length, get_or, take, drop, Some, None, Ok, Err, Option, Result, refl, ap}
 use Rattle.std.proofs.lemmas.Bool.{cond_both}
 use Rattle.graph.specs.declared.fault.Reason.{Reason}
-use Rattle.graph.specs.declared.fault.Reason.TheVariants.{Malformed}
 use Rattle.graph.specs.declared.records.Kind.{Kind}
 use Rattle.graph.specs.Entries.{Entry, a_name, a_module, a_star, an_import, an_export}
 use Rattle.graph.specs.Rules.{name_sized, id_sized, kind_numbered, wanted_number, wanted_numbered}

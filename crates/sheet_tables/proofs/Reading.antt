@@ -1,16 +1,14 @@
 -- Reading a sheet into tables, field by field.
-use Rattle.std.proofs.Common.{◌≡◌, ℕ, ◌+◌, ◌-◌, ◌<◌, ◌≤◌, true, List, [], ◌∷◌, ◌++◌, map, length, take, drop, is_ok, Some, Ok, Err, unwrap_or, sym, refl, ap, ◌∙◌, subst, arith}
+use Rattle.std.proofs.Common.{◌≡◌, ℕ, ◌+◌, ◌-◌, ◌<◌, ◌≤◌, true, List, [], ◌∷◌, ◌++◌, map, length, take, drop, is_ok, Ok, unwrap_or, sym, refl, ap, ◌∙◌, subst, arith}
 use Rattle.std.proofs.ByRecursion.{All-push}
 use Rattle.std.proofs.lemmas.List.{map_push, length-map, length_push, length-take, length-drop, drop-drop}
 use Rattle.std.proofs.lemmas.Bool.{cond-true, and_from, le-leb}
 use Rattle.graph.specs.declared.records.Kind.{Kind}
 use Rattle.graph.specs.declared.records.Kind.TheVariants as kind
-use Rattle.graph.specs.declared.records.Star.{Star}
-use Rattle.graph.specs.declared.records.Export.{Export}
 use Rattle.graph.specs.declared.records.Import.{Import}
-use Rattle.graph.specs.Graphs.{Graph, Module, no_records}
+use Rattle.graph.specs.Graphs.{Module, no_records}
 use Rattle.graph.specs.Entries.{Entry, a_name, a_module, an_import, grown}
-use Rattle.graph.specs.Rules.{name_entry, module_entry, of_kind, kind_number, kind_numbered, wanted_number, wanted_numbered}
+use Rattle.graph.specs.Rules.{name_entry, module_entry, of_kind, kind_number, wanted_number, wanted_numbered}
 use Rattle.graph.specs.Opening.{latest, or_only_default}
 use Rattle.graph.specs.Soundness.{Sized, Sound}
 use Rattle.graph.proofs.Numbering.{kind_again}
@@ -25,8 +23,7 @@ use Rattle.sheet.proofs.Remaining.{remaining, remaining_more}
 use Rattle.sheet.proofs.Soundly.{FormedField, formed_at, graph_sound}
 use Rattle.sheet_source.proofs.Answering.{built, sheet_built}
 use Rattle.tables.specs.declared.lists.Span.{Span}
-use Rattle.tables.specs.declared.lists.ModuleRow.{ModuleRow}
-use Rattle.tables.specs.Spans.{inside, bytes_in}
+use Rattle.tables.specs.Spans.{bytes_in}
 use Rattle.tables.specs.Rows.{Held, name_content, module_content, module_of, import_of, meant}
 use Rattle.tables.specs.Readable.{Readable}
 use Rattle.tables.specs.Opening as tables

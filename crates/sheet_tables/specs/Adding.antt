@@ -1,5 +1,5 @@
 -- One field more, in lists over the bytes of its sheet.
-use Rattle.std.specs.Prelude.{ℕ, ◌-◌, List, [], ◌∷◌, ◌++◌, length}
+use Rattle.std.specs.Prelude.{ℕ, ◌-◌, [], ◌∷◌, ◌++◌, length}
 use Rattle.graph.specs.Rules.{kind_number, wanted_number}
 use Rattle.sheet.specs.declared.field.Field.{Field}
 use Rattle.sheet.specs.declared.field.Field.TheVariants.{Name, Module, Star, Import, Export}

@@ -1,3 +1,5 @@
 // Sheets read into tables.
+#![tactic(auto)]
+
 mod add;
 pub mod read;

@@ -1,15 +1,14 @@
 -- The answers of tables are those of their graph.
-use Rattle.std.proofs.Common.{◌≡◌, ℕ, ◌≤◌, true, List, [], ◌∷◌, map, length, is_ok, Option, sym, refl, ap, ◌∙◌, subst}
+use Rattle.std.proofs.Common.{◌≡◌, ℕ, ◌≤◌, true, List, [], ◌∷◌, map, length, is_ok, Option, sym, ap, ◌∙◌, subst}
 use Rattle.std.specs.List.{slice_get}
 use Rattle.std.specs.Option.{option_map}
 use Rattle.std.proofs.lemmas.List.{length-map}
 use Rattle.graph.specs.declared.records.Kind.{Kind}
 use Rattle.graph.specs.declared.records.Star.{Star}
-use Rattle.graph.specs.declared.records.Import.{Import}
 use Rattle.graph.specs.declared.records.Export.{Export}
 use Rattle.graph.specs.Graphs.{Graph}
 use Rattle.graph.specs.Lookups.{owned_by, first_keyed, star_owner, star_target, import_owner, import_symbol, export_owner, export_name, export_symbol, kind_in, targets_in, exports_in, symbol_in, import_in}
-use Rattle.graph.specs.Soundness.{Pairwise, Rising, Sound}
+use Rattle.graph.specs.Soundness.{Rising, Sound}
 use Rattle.graph.proofs.Keyed.{nth_map, all_from_map, symbol_keyed, import_keyed, targets_owned, exports_owned}
 use Rattle.tables.specs.declared.lists.ImportRow.{ImportRow}
 use Rattle.tables.specs.Rows.{Held, module_of, import_of, meant}

@@ -3,9 +3,7 @@ ghost use Rattle.tables.specs.Opening.{opened, graph_of};
 ghost use Rattle.tables.specs.Borrowed.{held};
 
 use super::opened::Tables;
-use graph::lookups::{
-    Keyed, Owned, element_at, find_of, nth_of,
-};
+use graph::lookups::{Keyed, Owned, element_at, find_of, nth_of};
 use graph::records::{Export, Import, Kind};
 use graph::source::ModuleSource;
 use tables::kinds::kind_at;

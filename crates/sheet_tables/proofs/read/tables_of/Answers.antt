@@ -1,8 +1,8 @@
-use Rattle.std.proofs.Common.{◌≡◌, ◌≤◌, length, sym, ap, ◌∙◌, subst, arith}
+use Rattle.std.proofs.Common.{◌≤◌, length, sym, subst, arith}
 use Rattle.sheet.specs.Fields.{next_at}
 use Rattle.sheet.proofs.Remaining.{remaining_unread, remaining_none}
 use Rattle.tables.specs.Owned.{kept}
-use Rattle.sheet_tables.proofs.Reading.{SoFar, step, start, finish}
+use Rattle.sheet_tables.proofs.Reading.{SoFar, step, finish}
 use Rattle.sheet_tables.proofs.read.tables_of.Goals as goal
 
 pub returns-in_default : goal.returns-in_default
