@@ -7,6 +7,7 @@ use sheet_text::show::show;
 use std::alloc::Global;
 use std::io;
 use std::io::{ErrorKind, Read};
+use std::process::ExitCode;
 
 // One byte more than a sheet may have, so that a longer input is seen to be too long.
 const MOST: u64 = MOST_BYTES as u64 + 1;
@@ -17,17 +18,18 @@ fn read_sheet(rt: &HostRuntime, heap: Global) -> io::Result<Vec<u8>> {
     Ok(bytes)
 }
 
-fn main(rt: HostRuntime) -> io::Result<()> {
+fn main(rt: HostRuntime) -> io::Result<ExitCode> {
     let heap = rt.alloc();
     let bytes = read_sheet(&rt, heap)?;
     match show(heap, bytes.as_slice()) {
         Ok(text) => {
             let text = text.as_str();
-            print!(rt; "{text}")
+            print!(rt; "{text}")?;
+            Ok(ExitCode::SUCCESS)
         }
         Err(Failure::Refused(fault)) => {
             println!(rt; "{fault}")?;
-            Err(io::Error::from(ErrorKind::InvalidData))
+            Ok(ExitCode::FAILURE)
         }
         Err(Failure::NoMemory) => Err(io::Error::from(ErrorKind::OutOfMemory)),
     }
