@@ -1,4 +1,4 @@
-"""What opening_sheet_cases.py and tables_cases.py share: bytes as chunks, and the list of cases.
+"""Bytes as chunks, and a list of cases, for tables_cases.py (sheet_cases.py has its own).
 
 A chunk is a pair: bytes, and how often they stand in a row. It is written in hex, with `*`
 and the count where that is more than 1.

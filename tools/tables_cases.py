@@ -1,7 +1,7 @@
 #!/usr/bin/env python3
 """Prints the tables that the program opening_cases opens, with what each must give.
 
-    (python3 tools/opening_sheet_cases.py; python3 tools/tables_cases.py) > crates/opening_cases/stdin
+    (python3 tools/sheet_cases.py; python3 tools/tables_cases.py) > crates/opening_cases/stdin
 
 Each line is
 

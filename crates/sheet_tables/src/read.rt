@@ -1,6 +1,6 @@
 ghost use Rattle.std.specs.Prelude.{◌≡◌, true, is_ok, IfOk};
-ghost use Rattle.sheet.specs.Opening.{graph_of as sheet-graph};
-ghost use Rattle.tables.specs.Opening.{opened as tables-opened, graph_of as tables-graph};
+ghost use Rattle.sheet.specs.Opening.{graph_of as sheet_graph};
+ghost use Rattle.tables.specs.Opening.{opened as tables_opened, graph_of as tables_graph};
 ghost use Rattle.tables.specs.Owned.{kept};
 
 use super::add::add;
@@ -12,7 +12,7 @@ use tables::owned::OwnedLists;
 // Reads a sheet into tables, in one pass. Names and ids stay where they are in the sheet's bytes. The tables open, and
 // have the sheet's graph.
 pub fn tables_of<'a>(heap: Global, sheet: &Sheet<'a>) -> Result<OwnedLists<'a>, AllocError>
-    ensures { IfOk result (λ t. (is_ok (tables-opened (kept t)) ≡ true) × (tables-graph (kept t) ≡ sheet-graph sheet.now.bytes.now)) }
+    ensures { IfOk result (λ t. (is_ok (tables_opened (kept t)) ≡ true) × (tables_graph (kept t) ≡ sheet_graph sheet.now.bytes.now)) }
 {
     let bytes = sheet.bytes;
     let mut lists = OwnedLists {
