@@ -1,5 +1,6 @@
 pub mod Reading
 pub mod Stepping
+pub mod Going
 pub mod Remaining
 pub mod Naming
 pub mod Refusing

@@ -2,4 +2,5 @@ pub mod Fields
 pub mod Borrowed
 pub mod Opening
 pub mod Foremost
+pub mod Reading
 pub mod Progressing

@@ -11,6 +11,7 @@ ghost use Rattle.sheet.specs.Foremost.{FirstFault};
 ghost use Rattle.sheet.specs.Progressing.{Run, Head, Standing, Counted, clash, clashes, owned_refusal, latest_is_es, Roomy, Advanced, aim_by};
 
 use super::field::{Field, read_field, sheet_fault};
+use super::fields::Fields;
 use super::names::{Names, read_names};
 use super::progress::Progress;
 use graph::fault::{Fault, Reason};
@@ -218,15 +219,13 @@ fn aim_refusal(field: Field, kinds: &[Kind]) -> Option<Reason>
 fn check_targets(bytes: &[u8], kinds: &[Kind]) -> Result<(), Fault>
     ensures { (g : Graph) → kinds.now ≡ map kind_of g.modules → MatchResult result (λ _. aims g (fields_at bytes.now 0) ≡ None) (λ f. aims g (fields_at bytes.now 0) ≡ Some f) }
 {
-    let mut at = 0;
-    while at < bytes.len() {
-        let Ok(read) = read_field(bytes, at) else {
+    for next in Fields::of(bytes) {
+        let Ok(field) = next.content else {
             return Ok(());
         };
-        if let Some(reason) = aim_refusal(read.field, kinds) {
-            return Err(sheet_fault(reason, at));
+        if let Some(reason) = aim_refusal(field, kinds) {
+            return Err(sheet_fault(reason, next.place));
         }
-        at = read.next;
     }
     Ok(())
 }

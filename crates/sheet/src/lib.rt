@@ -3,6 +3,7 @@
 
 mod checks;
 pub mod field;
+pub mod fields;
 mod names;
 mod progress;
 

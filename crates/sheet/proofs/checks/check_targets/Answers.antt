@@ -1,22 +1,24 @@
-use Rattle.std.proofs.Common.{Some, sym, ap, ◌∙◌}
-use Rattle.sheet.specs.Opening.{fields_at, aims}
-use Rattle.sheet.proofs.Aiming.{aims_unread, aims_stop, aims_on, aims_done}
+use Rattle.std.proofs.Common.{rules, ◌≡◌, ℕ, ◌<◌, List, map, length, Some, None, Ok, Err, MatchResult, OnOk, ◌≢◌, ◌+◌, ◌-◌, ◌*◌, ◌≤◌, ◌/◌, ◌%◌, Bool, true, false, nat_eq, nat_lt, [], ◌∷◌, ◌++◌, slice_index_or, slice_set, bit_and, bit_or, Fits, w8, w32, w64, Bor, MutBor}
+use Rattle.std.specs.List.{slice_get}
+use Rattle.graph.specs.Graphs.{Graph, no_records}
+use Rattle.graph.specs.Entries.{Entry, a_name}
+use Rattle.graph.specs.Rules.{wants_unknown, is_es}
+use Rattle.graph.specs.Lookups.{kind_of}
+use Rattle.graph.specs.Soundness.{Sound}
+use Rattle.sheet.specs.Borrowed.{entry_of}
+use Rattle.sheet.specs.Opening.{fields_at, gathered, entry_refusal, aims, too_long, finished, opened}
+use Rattle.sheet.specs.Foremost.{FirstFault}
+use Rattle.sheet.specs.Progressing.{Run, Head, Standing, Counted, clash, clashes, owned_refusal, latest_is_es, Roomy, Advanced, aim_by}
 use Rattle.sheet.proofs.checks.check_targets.Goals as goal
 
-pub returns-in_default : goal.returns-in_default
-returns-in_default c = λ g are. sym (c.loop-at.invariant g are) ∙ aims_unread c.args.bytes.now c.loop-at.at g c.loop-at-test.true _ c.in_default.ensures.0
+-- src/checks.rt:222:5
+pub loop-next-init : goal.loop-next-init
+loop-next-init c = ?
 
-pub returns-in-Some : goal.returns-in-Some
-returns-in-Some c = λ g are.
-    sym (c.loop-at.invariant g are)
-    ∙ aims_stop c.args.bytes.now c.loop-at.at g c.loop-at-test.true _ c.in-Ok.ensures.0 c.args.kinds.now are _ c.in-Some.ensures
-    ∙ ap (λ f. Some f) (sym c.sheet_fault.ensures)
+-- src/checks.rt:227:13
+pub returns-in-Some-aim_refusal : goal.returns-in-Some-aim_refusal
+returns-in-Some-aim_refusal c = ?
 
-pub loop-at-preserved : goal.loop-at-preserved
-loop-at-preserved c = λ g are.
-    ap (λ p. aims g (fields_at c.args.bytes.now p)) c.in-Ok.ensures.1
-    ∙ aims_on c.args.bytes.now c.loop-at.at g c.loop-at-test.true _ c.in-Ok.ensures.0 c.args.kinds.now are c.in_default-aim_refusal.ensures
-    ∙ c.loop-at.invariant g are
-
-pub returns : goal.returns
-returns c = λ g are. sym (c.loop-at.invariant g are) ∙ aims_done c.args.bytes.now c.loop-at.at g c.loop-at-test.false
+-- src/checks.rt:222:5
+pub loop-next-preserved : goal.loop-next-preserved
+loop-next-preserved c = ?
