@@ -12,12 +12,13 @@ use Rattle.graph.specs.declared.records.Import.{Import}
 use Rattle.graph.specs.Graphs.{Graph, Module, no_records}
 use Rattle.graph.specs.Entries.{Entry, a_name, a_module, a_star, an_import, an_export, grown}
 use Rattle.graph.specs.Lookups.{kind_of, kind_in, symbol_in, import_in}
-use Rattle.graph.specs.Rules.{given_twice, is_es, wants_unknown}
+use Rattle.graph.specs.Rules.{given_twice, is_es, wants_unknown, owned_refusal}
 use Rattle.graph.proofs.Finding.{or_last, or_assoc, symbol_push, import_push, symbol_none, import_none}
 use Rattle.sheet.specs.declared.progress.Progress.{Progress}
 use Rattle.sheet.specs.Fields.{next_at, field_at, fault_at}
-use Rattle.sheet.specs.Opening.{latest, entry_refusal, field_refusal, fields_at, gathered}
-use Rattle.sheet.specs.Progressing.{Run, Head, named, Standing, Counts, Advanced, clash, clashes, owned_refusal}
+use Rattle.graph.specs.Opening.{latest}
+use Rattle.sheet.specs.Opening.{entry_refusal, field_refusal, fields_at, gathered}
+use Rattle.sheet.specs.Progressing.{Run, Head, named, Standing, Counts, Advanced, clash, clashes}
 use Rattle.sheet.proofs.Stepping.{gathered_more, gathered_stop, fields_done, run_push}
 
 clashes_push : (e : Entry) (es : List Entry) (x : Entry) → clashes e (es ++ (x ∷ [])) ≡ (clashes e es || clash e x)
@@ -54,7 +55,7 @@ export_twice g m n s (an_import symbol target wanted) = sym (or_last (is_some (i
 export_twice g m n s (an_export name symbol) = symbol_push g.exports m name n s
 
 -- a record with an owner is passed only where there is a module
-owned_module : (modules count : ℕ) (unknown twice es : Bool) → owned_refusal modules count unknown twice es ≡ None → 0 < modules
+owned_module : (modules count : ℕ) (unknown twice es : Bool) → owned_refusal (eqb modules 0) count unknown twice es ≡ None → 0 < modules
 owned_module modules count unknown twice es h = grind (arith, nat_tests)
 
 module_few : (n : ℕ) → cond (leb 256 n) (Some OverLimit) None ≡ None → n < 256
@@ -93,7 +94,7 @@ module _ (bytes : List ℕ) (s t : Progress) (g : Graph) (standing : Standing by
   owner_inside : 0 < s.modules → latest g < length g.modules
   owner_inside h = let e : length g.modules ≡ s.modules = standing.counted.modules in omega arith
 
-  some_module : (count : ℕ) (unknown twice : Bool) → owned_refusal (length g.modules) count unknown twice (is_es (kind_in g.modules (latest g))) ≡ None → 0 < s.modules
+  some_module : (count : ℕ) (unknown twice : Bool) → owned_refusal (eqb (length g.modules) 0) count unknown twice (is_es (kind_in g.modules (latest g))) ≡ None → 0 < s.modules
   some_module count unknown twice h = subst (λ n. 0 < n) standing.counted.modules (owned_module (length g.modules) count unknown twice (is_es (kind_in g.modules (latest g))) h)
 
   pub passes : (e : Entry) → field_at bytes s.at ≡ Ok e → entry_refusal g e ≡ None → Advanced s e (next_at bytes s.at) t → Standing bytes t (grown g (latest g) e)

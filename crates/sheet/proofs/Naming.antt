@@ -1,13 +1,14 @@
 -- The names at the head of a sheet.
-use Rattle.std.proofs.Common.{◌≡◌, ℕ, ◌<◌, ◌≤◌, Bool, true, false, not, ◌&&◌, ◌||◌, eqb, List, [], ◌∷◌, ◌++◌, map, length, Some, Ok, Err, sym, refl, ap, ◌∙◌, arith}
+use Rattle.std.proofs.Common.{◌≡◌, ℕ, ◌+◌, ◌<◌, ◌≤◌, true, false, ◌||◌, List, [], ◌∷◌, ◌++◌, map, length, Some, Ok, Err, sym, refl, ap, ◌∙◌, arith}
 use Rattle.std.specs.Str.{bytes_eq}
 use Rattle.std.proofs.lemmas.List.{map_push}
-use Rattle.std.proofs.lemmas.Bool.{cond-true, cond-false, false≢true, and_parts, eqb-true, le-leb, lt-leb}
+use Rattle.std.proofs.lemmas.Bool.{cond-true, cond-false, le-leb, lt-leb}
 use Rattle.graph.specs.declared.fault.Reason.{Reason}
 use Rattle.graph.specs.declared.fault.Reason.TheVariants.{BadName, OverLimit}
-use Rattle.graph.specs.Graphs.{no_records, default_name}
+use Rattle.graph.specs.Graphs.{no_records}
 use Rattle.graph.specs.Entries.{a_name}
 use Rattle.graph.specs.Rules.{listed, wrong_name}
+use Rattle.graph.proofs.Naming.{wrong_first, wrong_by_first, wrong_by_list, not_wrong}
 use Rattle.sheet.specs.Fields.{next_at, field_at, fault_at}
 use Rattle.sheet.specs.Borrowed.{entry_of, is_name}
 use Rattle.sheet.specs.declared.field.Field.{Field}
@@ -15,21 +16,6 @@ use Rattle.sheet.specs.declared.field.Field.TheVariants.{Name, Module, Star, Imp
 use Rattle.sheet.specs.Opening.{fields_at, gathered, entry_refusal, field_refusal}
 use Rattle.sheet.specs.Progressing.{Run, named, Headed}
 use Rattle.sheet.proofs.Stepping.{gathered_more, gathered_stop, run_push, run_le}
-
-abbrev pub wrong_first : List (List ℕ) → List ℕ → Bool
-wrong_first names name = eqb (length names) 0 && not (bytes_eq name default_name)
-
-wrong_by_first : (names : List (List ℕ)) (name : List ℕ) → wrong_first names name ≡ true → wrong_name names name ≡ true
-wrong_by_first [] name h = h
-wrong_by_first (x ∷ xs) name h = let none : length (x ∷ xs) ≡ 0 = eqb-true _ _ (and_parts _ _ h).0 in absurd (omega arith)
-
-wrong_by_list : (names : List (List ℕ)) (name : List ℕ) → listed name names ≡ true → wrong_name names name ≡ true
-wrong_by_list [] name h = absurd (false≢true h)
-wrong_by_list (x ∷ xs) name h = h
-
-not_wrong : (names : List (List ℕ)) (name : List ℕ) → wrong_first names name ≡ false → listed name names ≡ false → wrong_name names name ≡ false
-not_wrong [] name h k = h
-not_wrong (x ∷ xs) name h k = k
 
 module _ {bytes : List ℕ} {p : ℕ} {names : List (List ℕ)} (headed : Headed bytes p names) (inside : p < length bytes) where
   -- a field that is refused ends the opening

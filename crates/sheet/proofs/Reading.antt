@@ -4,8 +4,8 @@ use Rattle.std.proofs.lemmas.List.{take_rest}
 use Rattle.std.proofs.lemmas.Bool.{cond-true, cond-false, le-ltb, and_from, le-leb}
 use Rattle.graph.specs.declared.records.Kind.{Kind}
 use Rattle.graph.specs.Entries.{a_module}
-use Rattle.graph.specs.Rules.{kind_numbered}
-use Rattle.sheet.specs.Fields.{two, as_module, of_kind, next_at, content, field_at}
+use Rattle.graph.specs.Rules.{kind_numbered, of_kind}
+use Rattle.sheet.specs.Fields.{two, as_module, next_at, content, field_at}
 
 -- a field whose header and payload are there
 pub field_there : (bytes : List ℕ) (p size : ℕ) → size ≡ two bytes (p + 1) → (p + 3) + size ≤ length bytes → field_at bytes p ≡ content (get_or bytes p 0) (take ((p + 3) + size - (p + 3)) (drop (p + 3) bytes))

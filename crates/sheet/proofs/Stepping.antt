@@ -1,20 +1,15 @@
 -- From one field of a sheet to the next.
-use Rattle.std.proofs.Common.{◌≡◌, ℕ, zero, suc, ◌+◌, ◌<◌, ◌≤◌, true, false, cond, ltb, List, [], ◌∷◌, ◌++◌, length, Some, None, Ok, Err, Result, sym, refl, ap, ◌∙◌, arith}
-use Rattle.std.proofs.lemmas.Bool.{cond-true, cond-false, false≢true, lt-ltb, le-ltb}
+use Rattle.std.proofs.Common.{◌≡◌, ℕ, zero, suc, ◌+◌, ◌<◌, ◌≤◌, cond, ltb, List, [], ◌∷◌, ◌++◌, length, Some, None, Ok, Err, sym, refl, ap, ◌∙◌, arith}
+use Rattle.std.proofs.lemmas.Bool.{cond-true, cond-false, lt-ltb, le-ltb}
 use Rattle.graph.specs.declared.fault.Layer.TheVariants as layer
 use Rattle.graph.specs.declared.fault.Reason.{Reason}
 use Rattle.graph.specs.Graphs.{Graph}
 use Rattle.graph.specs.Entries.{Entry, grown}
-use Rattle.graph.specs.Rules.{unless}
+use Rattle.graph.specs.Rules.{placed, unless}
+use Rattle.graph.specs.Opening.{latest, with_content}
 use Rattle.sheet.specs.Fields.{next_at, field_at}
-use Rattle.sheet.specs.Opening.{Placed, fields_from, fields_at, latest, entry_refusal, field_refusal, with_field, sheet_fault, gathered}
+use Rattle.sheet.specs.Opening.{placed_at, fields_from, fields_at, entry_refusal, field_refusal, gathered}
 use Rattle.sheet.specs.Progressing.{Run}
-
-pub ok_not_err : {A B : Type 0} (r : Result A B) (x : A) (y : B) → r ≡ Ok x → r ≡ Err y → ⊥
-ok_not_err r x y p q = let never : true ≡ false = cc in false≢true (sym never)
-
-abbrev pub placed_at : List ℕ → ℕ → Placed
-placed_at bytes p = record { place = p; content = field_at bytes p }
 
 fields_none : (steps : ℕ) (bytes : List ℕ) (p : ℕ) → length bytes ≤ p → fields_from steps bytes p ≡ []
 fields_none zero bytes p h = refl
@@ -36,14 +31,14 @@ fields_more bytes p h = steps_enough (length bytes) (suc (length bytes)) bytes p
 pub gathered_more : (bytes : List ℕ) (p : ℕ) (g : Graph) (e : Entry) → p < length bytes → field_at bytes p ≡ Ok e → entry_refusal g e ≡ None → gathered g (fields_at bytes p) ≡ gathered (grown g (latest g) e) (fields_at bytes (next_at bytes p))
 gathered_more bytes p g e h f none =
     ap (gathered g) (fields_more bytes p h)
-    ∙ ap (λ c. unless (sheet_fault (field_refusal g c) p) (gathered (with_field g c) (fields_at bytes (next_at bytes p)))) f
-    ∙ ap (λ r. unless (sheet_fault r p) (gathered (grown g (latest g) e) (fields_at bytes (next_at bytes p)))) none
+    ∙ ap (λ c. unless (placed layer.Sheet (field_refusal g c) p) (gathered (with_content g None c) (fields_at bytes (next_at bytes p)))) f
+    ∙ ap (λ r. unless (placed layer.Sheet r p) (gathered (grown g (latest g) e) (fields_at bytes (next_at bytes p)))) none
 
 -- and ends at one that is
 pub gathered_stop : (bytes : List ℕ) (p : ℕ) (g : Graph) (reason : Reason) → p < length bytes → field_refusal g (field_at bytes p) ≡ Some reason → gathered g (fields_at bytes p) ≡ Err (record { reason = reason; place = p; layer = layer.Sheet })
 gathered_stop bytes p g reason h refused =
     ap (gathered g) (fields_more bytes p h)
-    ∙ ap (λ r. unless (sheet_fault r p) (gathered (with_field g (field_at bytes p)) (fields_at bytes (next_at bytes p)))) refused
+    ∙ ap (λ r. unless (placed layer.Sheet r p) (gathered (with_content g None (field_at bytes p)) (fields_at bytes (next_at bytes p)))) refused
 
 pub run_push : (bytes : List ℕ) (p : ℕ) (es : List Entry) (q : ℕ) (e : Entry) → Run bytes p es q → field_at bytes q ≡ Ok e → Run bytes p (es ++ (e ∷ [])) (next_at bytes q)
 run_push bytes p [] q e r f = rw r (f, refl)

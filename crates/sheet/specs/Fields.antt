@@ -1,32 +1,24 @@
 -- The fields of a sheet: one byte of tag, two bytes of length, then the payload.
-use Rattle.std.specs.Prelude.{ℕ, ◌+◌, ◌*◌, cond, List, length, take, drop, Some, None, Ok, Err, Option, Result, ◌==◌, nat_lt, slice_index}
+use Rattle.std.specs.Prelude.{ℕ, ◌+◌, ◌*◌, cond, List, length, take, drop, Ok, Err, Result, ◌==◌, nat_lt, slice_index}
 use Rattle.graph.specs.declared.fault.Fault.{Fault}
 use Rattle.graph.specs.declared.fault.Layer.TheVariants as layer
 use Rattle.graph.specs.declared.fault.Reason.{Reason}
 use Rattle.graph.specs.declared.fault.Reason.TheVariants.{BadLength, Malformed}
-use Rattle.graph.specs.declared.records.Kind.{Kind}
-use Rattle.graph.specs.Entries.{Entry, a_name, a_module, a_star, an_import, an_export}
-use Rattle.graph.specs.Rules.{name_sized, id_sized, kind_numbered, wanted_numbered}
+use Rattle.graph.specs.Entries.{Entry, a_star, an_import, an_export}
+use Rattle.graph.specs.Rules.{name_entry, module_entry, wanted_numbered}
+use Rattle.graph.specs.Opening.{fault_in}
 
 -- a fault of a sheet
 abbrev pub fault_at : Reason → ℕ → Fault
-fault_at reason place = record { reason = reason; place = place; layer = layer.Sheet }
+fault_at reason place = fault_in layer.Sheet reason place
 
 -- the number in two bytes, the higher byte first
 abbrev pub two : List ℕ → ℕ → ℕ
 two bytes p = slice_index bytes p * 256 + slice_index bytes (p + 1)
 
--- tag 1: a name
-abbrev pub as_name : List ℕ → Result Entry Reason
-as_name payload = cond (name_sized payload) (Ok (a_name payload)) (Err Malformed)
-
 -- tag 2: a module, its kind byte and its id
-abbrev pub of_kind : Option Kind → List ℕ → Result Entry Reason
-of_kind None id = Err Malformed
-of_kind (Some k) id = Ok (a_module k id)
-
 abbrev pub as_module : List ℕ → Result Entry Reason
-as_module payload = cond (id_sized (drop 1 payload)) (of_kind (kind_numbered (slice_index payload 0)) (drop 1 payload)) (Err Malformed)
+as_module payload = module_entry (slice_index payload 0) (drop 1 payload)
 
 -- tag 3: a star record, its target
 abbrev pub as_star : List ℕ → Result Entry Reason
@@ -40,9 +32,10 @@ as_import payload = cond (length payload == 6) (Ok (an_import (two payload 0) (t
 abbrev pub as_export : List ℕ → Result Entry Reason
 as_export payload = cond (length payload == 4) (Ok (an_export (two payload 0) (two payload 2))) (Err Malformed)
 
+-- by its tag, where tag 1 is a name
 abbrev pub content : ℕ → List ℕ → Result Entry Reason
 content tag payload =
-    cond (tag == 1) (as_name payload)
+    cond (tag == 1) (name_entry payload)
     (cond (tag == 2) (as_module payload)
     (cond (tag == 3) (as_star payload)
     (cond (tag == 4) (as_import payload)

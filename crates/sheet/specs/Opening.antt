@@ -1,22 +1,23 @@
 -- Opening a sheet: the graph that it means, or its first fault.
-use Rattle.std.specs.Prelude.{ℕ, zero, suc, ◌-◌, Bool, false, cond, not, List, [], ◌∷◌, length, Some, None, Ok, Err, Option, Result, ◌==◌, nat_lt}
+use Rattle.std.specs.Prelude.{ℕ, zero, suc, cond, List, [], ◌∷◌, length, Some, None, Ok, Err, Option, Result, nat_lt}
 use Rattle.graph.specs.declared.fault.Fault.{Fault}
 use Rattle.graph.specs.declared.fault.Layer.TheVariants as layer
 use Rattle.graph.specs.declared.fault.Reason.{Reason}
-use Rattle.graph.specs.declared.fault.Reason.TheVariants.{BadLength, OutOfOrder, BadName, OverLimit, NoRecord, Duplicate, WrongKind}
-use Rattle.graph.specs.Graphs.{Graph, no_records, only_default}
-use Rattle.graph.specs.Entries.{Entry, a_name, a_module, a_star, an_import, an_export, grown}
-use Rattle.graph.specs.Rules.{misnamed, over_limit, unknown_name, given_twice, wrong_owner, Case, first_given, aim_refusal, placed, either_fault, unless, and_then}
+use Rattle.graph.specs.declared.fault.Reason.TheVariants.{BadLength}
+use Rattle.graph.specs.Graphs.{Graph}
+use Rattle.graph.specs.Entries.{Entry}
+use Rattle.graph.specs.Rules.{placed, unless}
+use Rattle.graph.specs.Opening.{Placed, or_only_default}
+use Rattle.graph.specs.Opening as opening
 use Rattle.sheet.specs.Fields.{next_at, field_at}
 
--- a field, and the place of its first byte
-pub record Placed : Type 0 where
-  pub place : ℕ
-  pub content : Result Entry Reason
+-- the field at p. No owner is written in a field: its record belongs to the latest module
+abbrev pub placed_at : List ℕ → ℕ → Placed
+placed_at bytes p = record { place = p; owner = None; content = field_at bytes p }
 
 abbrev pub fields_from : ℕ → List ℕ → ℕ → List Placed
 fields_from zero bytes p = []
-fields_from (suc steps) bytes p = cond (nat_lt p (length bytes)) (record { place = p; content = field_at bytes p } ∷ fields_from steps bytes (next_at bytes p)) []
+fields_from (suc steps) bytes p = cond (nat_lt p (length bytes)) (placed_at bytes p ∷ fields_from steps bytes (next_at bytes p)) []
 
 -- the fields from p on. A field has three bytes at least, so the sheet's length is steps enough
 abbrev pub fields_at : List ℕ → ℕ → List Placed
@@ -36,77 +37,31 @@ entries_of (f ∷ fs) = entry_then f.content (entries_of fs)
 abbrev pub entries : List ℕ → List Entry
 entries bytes = entries_of (fields_at bytes 0)
 
--- the latest module, which owns the records behind it
-abbrev pub latest : Graph → ℕ
-latest g = length g.modules - 1
-
--- 12: a name behind a module, or a record before every module
-abbrev pub misplaced : Graph → Entry → Bool
-misplaced g (a_name bytes) = not (length g.modules == 0)
-misplaced g (a_module kind id) = false
-misplaced g (a_star target) = length g.modules == 0
-misplaced g (an_import symbol target wanted) = length g.modules == 0
-misplaced g (an_export name symbol) = length g.modules == 0
-
--- why a record may be refused behind those of g, the smaller number first
-abbrev pub entry_cases : Graph → Entry → List Case
-entry_cases g e =
-    record { given = misplaced g e; reason = OutOfOrder }
-    ∷ record { given = misnamed g e; reason = BadName }
-    ∷ record { given = over_limit g e; reason = OverLimit }
-    ∷ record { given = unknown_name g e; reason = NoRecord }
-    ∷ record { given = given_twice g (latest g) e; reason = Duplicate }
-    ∷ record { given = wrong_owner g (latest g) e; reason = WrongKind }
-    ∷ []
-
--- why it is refused
+-- why a record, or what was read of a field, is refused behind the records of g
 abbrev pub entry_refusal : Graph → Entry → Option Reason
-entry_refusal g e = first_given (entry_cases g e)
+entry_refusal g e = opening.entry_refusal g None e
 
--- the same of a field, where 10 and 11 come first
 abbrev pub field_refusal : Graph → Result Entry Reason → Option Reason
-field_refusal g (Err reason) = Some reason
-field_refusal g (Ok e) = entry_refusal g e
-
-abbrev pub with_field : Graph → Result Entry Reason → Graph
-with_field g (Err reason) = g
-with_field g (Ok e) = grown g (latest g) e
-
-abbrev pub sheet_fault : Option Reason → ℕ → Option Fault
-sheet_fault reason place = placed layer.Sheet reason place
+field_refusal g content = opening.content_refusal g None content
 
 -- field by field: g with the records of the fields, or the first fault among these
 abbrev pub gathered : Graph → List Placed → Result Graph Fault
-gathered g [] = Ok g
-gathered g (f ∷ fs) = unless (sheet_fault (field_refusal g f.content) f.place) (gathered (with_field g f.content) fs)
+gathered g fs = opening.gathered layer.Sheet g fs
 
--- the last checks of a field, with the whole graph at hand, and then those of the later ones
-abbrev pub field_aim : Graph → ℕ → Result Entry Reason → Option Fault → Option Fault
-field_aim g place (Err reason) later = None
-field_aim g place (Ok e) later = either_fault (sheet_fault (aim_refusal g e) place) later
-
+-- the last checks, field by field
 abbrev pub aims : Graph → List Placed → Option Fault
-aims g [] = None
-aims g (f ∷ fs) = field_aim g f.place f.content (aims g fs)
+aims g fs = opening.aims layer.Sheet g fs
 
 -- 10, before anything is read
 abbrev pub too_long : List ℕ → Option Fault
-too_long bytes = cond (nat_lt 60000 (length bytes)) (sheet_fault (Some BadLength) 60000) None
-
--- 13, behind the last field
-abbrev pub no_name : List ℕ → Graph → Option Fault
-no_name bytes g = cond (length g.names == 0) (sheet_fault (Some BadName) (length bytes)) None
+too_long bytes = cond (nat_lt 60000 (length bytes)) (placed layer.Sheet (Some BadLength) 60000) None
 
 -- the checks behind the last field
 abbrev pub finished : List ℕ → Graph → Result Graph Fault
-finished bytes g = unless (no_name bytes g) (unless (aims g (fields_at bytes 0)) (Ok g))
+finished bytes g = opening.finished layer.Sheet (length bytes) (fields_at bytes 0) g
 
 abbrev pub opened : List ℕ → Result Graph Fault
-opened bytes = unless (too_long bytes) (and_then (gathered no_records (fields_at bytes 0)) (finished bytes))
-
-abbrev pub or_only_default : Result Graph Fault → Graph
-or_only_default (Ok g) = g
-or_only_default (Err f) = only_default
+opened bytes = unless (too_long bytes) (opening.opened layer.Sheet (length bytes) (fields_at bytes 0))
 
 -- the graph of any bytes
 abbrev pub graph_of : List ℕ → Graph

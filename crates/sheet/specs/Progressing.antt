@@ -1,19 +1,19 @@
 -- What the checks of a sheet know between two fields.
-use Rattle.std.specs.Prelude.{◌≡◌, ℕ, ◌+◌, ◌-◌, ◌<◌, ◌≤◌, Bool, false, cond, not, ◌||◌, List, [], ◌∷◌, map, length, take, Some, None, Ok, Option, ◌==◌, ◌≢◌, nat_le, slice_set}
+use Rattle.std.specs.Prelude.{◌≡◌, ℕ, ◌+◌, ◌-◌, ◌<◌, ◌≤◌, Bool, false, cond, ◌||◌, List, [], ◌∷◌, map, length, take, Some, None, Ok, Option, ◌==◌, ◌≢◌, nat_le, slice_set}
 use Rattle.std.specs.List.{slice_get, AllByRecursion}
 use Rattle.graph.specs.declared.fault.Reason.{Reason}
-use Rattle.graph.specs.declared.fault.Reason.TheVariants.{OutOfOrder, OverLimit, NoRecord, Duplicate, WrongKind}
+use Rattle.graph.specs.declared.fault.Reason.TheVariants.{NoRecord}
 use Rattle.graph.specs.declared.records.Export.{Export}
 use Rattle.graph.specs.declared.records.Import.{Import}
 use Rattle.graph.specs.declared.records.Kind.{Kind}
-use Rattle.graph.specs.declared.records.Kind.TheVariants as kind
 use Rattle.graph.specs.Graphs.{Graph, no_records}
 use Rattle.graph.specs.Entries.{Entry, a_name, a_module, a_star, an_import, an_export}
 use Rattle.graph.specs.Lookups.{kind_of}
-use Rattle.graph.specs.Rules.{given_twice, is_es}
+use Rattle.graph.specs.Rules.{given_twice, is_es, star_aim}
 use Rattle.sheet.specs.declared.progress.Progress.{Progress}
 use Rattle.sheet.specs.Fields.{next_at, field_at}
-use Rattle.sheet.specs.Opening.{fields_at, gathered, latest}
+use Rattle.graph.specs.Opening.{latest}
+use Rattle.sheet.specs.Opening.{fields_at, gathered}
 
 -- the fields from p up to q are these records
 abbrev pub Run : List ℕ → ℕ → List Entry → ℕ → Type 0
@@ -61,16 +61,6 @@ clash (an_export name symbol) earlier = is_export name earlier
 abbrev pub clashes : Entry → List Entry → Bool
 clashes e [] = false
 clashes e (x ∷ xs) = clash e x || clashes e xs
-
--- why a record that needs an owner is refused
-abbrev pub owned_refusal : ℕ → ℕ → Bool → Bool → Bool → Option Reason
-owned_refusal modules count unknown twice es =
-    cond (modules == 0) (Some OutOfOrder)
-    (cond (nat_le 1024 count) (Some OverLimit)
-    (cond unknown (Some NoRecord)
-    (cond twice (Some Duplicate)
-    (cond (not es) (Some WrongKind)
-    None))))
 
 abbrev pub latest_is_es : Progress → Bool
 latest_is_es s = is_es (slice_get (take s.modules s.kinds) (s.modules - 1))
@@ -124,13 +114,6 @@ Advanced s (a_module kind id) p t = Counts s t p (s.modules + 1) s.stars s.impor
 Advanced s (a_star target) p t = Counts s t p s.modules (s.stars + 1) s.imports s.exports s.own s.kinds
 Advanced s (an_import symbol target wanted) p t = Counts s t p s.modules s.stars (s.imports + 1) s.exports s.own s.kinds
 Advanced s (an_export name symbol) p t = Counts s t p s.modules s.stars s.imports (s.exports + 1) s.own s.kinds
-
--- why a star record is refused that aims at a module of this kind
-abbrev pub star_aim : Option Kind → Option Reason
-star_aim None = Some NoRecord
-star_aim (Some kind.Es) = None
-star_aim (Some kind.External) = Some WrongKind
-star_aim (Some kind.Empty) = None
 
 -- the last checks of a record, where the modules have these kinds
 abbrev pub aim_by : List Kind → Entry → Option Reason

@@ -1,22 +1,23 @@
-ghost use Rattle.std.specs.Prelude.{◌≡◌, ℕ, ◌<◌, List, map, length, Some, None, Ok, Err, MatchResult, OnOk, ◌≢◌};
-ghost use Rattle.std.specs.List.{slice_get};
+ghost use Rattle.std.specs.Prelude.{◌≡◌, ℕ, ◌<◌, List, map, length, Some, None, Ok, Err, MatchResult, OnOk, ◌==◌, ◌≢◌};
 ghost use Rattle.graph.specs.Graphs.{Graph, no_records};
 ghost use Rattle.graph.specs.Entries.{Entry, a_name};
-ghost use Rattle.graph.specs.Rules.{wants_unknown, is_es};
+ghost use Rattle.graph.specs.Rules.{owned_refusal};
 ghost use Rattle.graph.specs.Lookups.{kind_of};
 ghost use Rattle.graph.specs.Soundness.{Sound};
 ghost use Rattle.sheet.specs.Borrowed.{entry_of};
 ghost use Rattle.sheet.specs.Opening.{fields_at, gathered, entry_refusal, aims, too_long, finished, opened};
 ghost use Rattle.sheet.specs.Foremost.{FirstFault};
-ghost use Rattle.sheet.specs.Progressing.{Run, Head, Standing, Counted, clash, clashes, owned_refusal, latest_is_es, Roomy, Advanced, aim_by};
+ghost use Rattle.sheet.specs.Progressing.{Run, Head, Standing, Counted, clash, clashes, latest_is_es, Roomy, Advanced, aim_by};
 
 use super::field::{Field, read_field, sheet_fault};
 use super::fields::Fields;
 use super::names::{Names, read_names};
 use super::progress::Progress;
 use graph::fault::{Fault, Reason};
-use graph::limits::{MOST_MODULES, MOST_RECORDS};
-use graph::records::{Kind, Wanted};
+use graph::limits::MOST_MODULES;
+use graph::lookups::element_at;
+use graph::records::Kind;
+use graph::rules::{is_es, owned_refusal, star_aim};
 
 // How many bytes a sheet may have.
 pub const MOST_BYTES: usize = 60000;
@@ -49,36 +50,6 @@ fn clashes_in(bytes: &[u8], from: usize, to: usize, field: Field) -> bool
     false
 }
 
-fn kind_at(kinds: &[Kind], m: usize) -> Option<Kind>
-    ensures { result ≡ slice_get kinds.now m }
-{
-    if m < kinds.len() {
-        Some(kinds[m])
-    } else {
-        None
-    }
-}
-
-fn is_es(kind: Option<Kind>) -> bool
-    ensures { result ≡ is_es kind }
-{
-    match kind {
-        Some(Kind::Es) => true,
-        Some(Kind::External) => false,
-        Some(Kind::Empty) => false,
-        None => false,
-    }
-}
-
-fn is_unknown(names: usize, wanted: Wanted) -> bool
-    ensures { result ≡ wants_unknown names wanted }
-{
-    match wanted {
-        Wanted::Name(n) => usize::from(n) >= names,
-        Wanted::Whole => false,
-    }
-}
-
 impl Progress {
     fn latest_is_es(&self) -> bool
         ensures { result ≡ latest_is_es self.now }
@@ -86,29 +57,20 @@ impl Progress {
         if self.modules == 0 {
             return false;
         }
-        is_es(kind_at(&self.kinds[0..self.modules], self.modules - 1))
+        is_es(element_at(&self.kinds[0..self.modules], self.modules - 1))
     }
 
     // Why a star record, an import or an export is refused, where there are `count` of its sort.
     fn owned_refusal(&self, count: usize, unknown: bool, twice: bool) -> Option<Reason>
-        ensures { result ≡ owned_refusal self.now.modules count unknown twice (latest_is_es self.now) }
+        ensures { result ≡ owned_refusal (self.now.modules == 0) count unknown twice (latest_is_es self.now) }
     {
-        if self.modules == 0 {
-            return Some(Reason::OutOfOrder);
-        }
-        if count >= MOST_RECORDS {
-            return Some(Reason::OverLimit);
-        }
-        if unknown {
-            return Some(Reason::NoRecord);
-        }
-        if twice {
-            return Some(Reason::Duplicate);
-        }
-        if !self.latest_is_es() {
-            return Some(Reason::WrongKind);
-        }
-        None
+        owned_refusal(
+            self.modules == 0,
+            count,
+            unknown,
+            twice,
+            self.latest_is_es(),
+        )
     }
 
     // Why `field`, which begins at `self.at`, is refused behind what came before.
@@ -122,7 +84,7 @@ impl Progress {
             Field::Module { .. } => None,
             Field::Star { .. } => self.owned_refusal(self.stars, false, false),
             Field::Import { wanted, .. } => {
-                let unknown = is_unknown(self.names, wanted);
+                let unknown = wanted.is_unknown(self.names);
                 let twice = clashes_in(bytes, self.own, self.at, field);
                 self.owned_refusal(self.imports, unknown, twice)
             }
@@ -202,12 +164,7 @@ fn aim_refusal(field: Field, kinds: &[Kind]) -> Option<Reason>
     ensures { result ≡ aim_by kinds.now (entry_of field.entry) }
 {
     match field {
-        Field::Star { target } => match kind_at(kinds, usize::from(target)) {
-            None => Some(Reason::NoRecord),
-            Some(Kind::External) => Some(Reason::WrongKind),
-            Some(Kind::Es) => None,
-            Some(Kind::Empty) => None,
-        },
+        Field::Star { target } => star_aim(element_at(kinds, usize::from(target))),
         Field::Import { target, .. } if usize::from(target) >= kinds.len() => Some(
             Reason::NoRecord,
         ),

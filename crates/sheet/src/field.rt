@@ -1,5 +1,4 @@
 ghost use Rattle.std.specs.Prelude.{◌≡◌, ◌+◌, ◌^◌, ◌<◌, ◌≤◌, length, IfOk, Ok, Err, MatchResult};
-ghost use Rattle.graph.specs.Rules.{wanted_numbered, kind_numbered};
 ghost use Rattle.sheet.specs.Fields.{two, next_at, content, field_at, fault_at};
 ghost use Rattle.sheet.specs.Borrowed.{entry_of, Begins, content_of};
 
@@ -58,30 +57,6 @@ fn two_bytes(bytes: &[u8], at: usize) -> u16
     u16::from(bytes[at]) * 256 + u16::from(bytes[at + 1])
 }
 
-fn kind_of(number: u8) -> Option<Kind>
-    ensures { result ≡ kind_numbered number }
-{
-    match number {
-        0 => Some(Kind::Es),
-        1 => Some(Kind::External),
-        2 => Some(Kind::Empty),
-        _ => None,
-    }
-}
-
-// The name number of an import that stands for the whole namespace.
-const WHOLE_NAMESPACE: u16 = 65535;
-
-fn wanted_of(number: u16) -> Wanted
-    ensures { result ≡ wanted_numbered number }
-{
-    if number == WHOLE_NAMESPACE {
-        Wanted::Whole
-    } else {
-        Wanted::Name(number)
-    }
-}
-
 // What stands in a payload that begins at `offset`, by the field's tag.
 fn read_content(tag: u8, payload: &[u8], offset: usize) -> Result<Field<'_>, Reason>
     requires { offset < 2 ^ 63 }
@@ -97,7 +72,7 @@ fn read_content(tag: u8, payload: &[u8], offset: usize) -> Result<Field<'_>, Rea
         4 if payload.len() == 6 => Ok(Field::Import {
             symbol: two_bytes(payload, 0),
             target: two_bytes(payload, 2),
-            wanted: wanted_of(two_bytes(payload, 4)),
+            wanted: Wanted::numbered(two_bytes(payload, 4)),
         }),
         5 if payload.len() == 4 => Ok(Field::Export {
             name: two_bytes(payload, 0),
@@ -129,7 +104,7 @@ fn read_module(payload: &[u8], offset: usize) -> Result<Field<'_>, Reason>
     let [number, id @ ..] = payload else {
         return Err(Reason::Malformed);
     };
-    let Some(kind) = kind_of(*number) else {
+    let Some(kind) = Kind::numbered(*number) else {
         return Err(Reason::Malformed);
     };
     if id.len() < 1 || id.len() > LONGEST_ID {

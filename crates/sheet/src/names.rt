@@ -1,6 +1,5 @@
-ghost use Rattle.std.specs.Prelude.{◌≡◌, not, ◌&&◌, Err, MatchResult, ◌==◌};
-ghost use Rattle.std.specs.Str.{bytes_eq};
-ghost use Rattle.graph.specs.Graphs.{no_records, default_name};
+ghost use Rattle.std.specs.Prelude.{◌≡◌, Err, MatchResult};
+ghost use Rattle.graph.specs.Graphs.{no_records};
 ghost use Rattle.sheet.specs.Borrowed.{is_name};
 ghost use Rattle.sheet.specs.Opening.{fields_at, gathered};
 ghost use Rattle.sheet.specs.Progressing.{Head};
@@ -8,25 +7,13 @@ ghost use Rattle.sheet.specs.Progressing.{Head};
 use super::field::{Field, read_field, sheet_fault};
 use graph::fault::{Fault, Reason};
 use graph::limits::MOST_NAMES;
+use graph::rules::{is_wrong_first, same_bytes};
 
 // The names at the head of a sheet: how many, and where they end.
 #[derive(Clone, Copy)]
 pub struct Names {
     pub count: usize,
     pub end: usize,
-}
-
-fn same_bytes(a: &[u8], b: &[u8]) -> bool
-    ensures { result ≡ bytes_eq a.now b.now }
-{
-    a == b
-}
-
-// Whether a name that must be `default`, since it is the first, is another.
-fn is_wrong_first(count: usize, name: &[u8]) -> bool
-    ensures { result ≡ (count == 0 && not (bytes_eq name.now default_name)) }
-{
-    count == 0 && !same_bytes(name, b"default")
 }
 
 // Whether a field is this name.

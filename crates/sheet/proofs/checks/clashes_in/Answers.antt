@@ -1,7 +1,8 @@
 use Rattle.std.proofs.Common.{◌||◌, sym, refl, ap, ◌∙◌}
 use Rattle.sheet.specs.Borrowed.{entry_of}
 use Rattle.sheet.specs.Progressing.{clashes}
-use Rattle.sheet.proofs.Stepping.{ok_not_err, run_more, run_done, run_here}
+use Rattle.graph.proofs.Firstly.{ok_not_err}
+use Rattle.sheet.proofs.Stepping.{run_more, run_done, run_here}
 use Rattle.sheet.proofs.checks.clashes_in.Goals as goal
 
 pub loop-at-init : goal.loop-at-init

@@ -8,7 +8,7 @@ use Rattle.graph.specs.Rules.{listed}
 use Rattle.sheet.specs.Fields.{field_at, fault_at}
 use Rattle.sheet.specs.Borrowed.{entry_of}
 use Rattle.sheet.proofs.Naming.{unread, first_refused, repeated_refused, limit_refused, name_passes, earlier_name, no_earlier, name_test, listed_on, listed_here}
-use Rattle.sheet.proofs.Stepping.{ok_not_err}
+use Rattle.graph.proofs.Firstly.{ok_not_err}
 use Rattle.sheet.proofs.names.read_names.Goals as goal
 use Rattle.sheet.proofs.names.read_names.Goals.{else-names-test, then-names-test+in_ok-read+in_default, then-names-test+in_ok-read+in-Name+else-is_wrong_first+then-loop-earlier-test+in_ok-other+then-is_name}
 

@@ -1,7 +1,8 @@
 use Rattle.std.proofs.Common.{◌≡◌, Ok, Err, sym, ap, ◌∙◌, subst, arith}
 use Rattle.std.proofs.lemmas.Result.{err_from_is_err_and, IfOk-from_err}
 use Rattle.sheet.specs.Borrowed.{entry_of}
-use Rattle.sheet.specs.Opening.{field_refusal, latest}
+use Rattle.graph.specs.Opening.{latest}
+use Rattle.sheet.specs.Opening.{field_refusal}
 use Rattle.sheet.specs.Progressing.{Advanced}
 use Rattle.graph.specs.Entries.{grown}
 use Rattle.sheet.proofs.Advancing.{passes, stops, advanced_at}
