@@ -1,15 +1,29 @@
--- Going from one field to the next.
-use Rattle.std.proofs.Common.{◌≡◌, ℕ, ◌<◌, cond, List, [], ◌∷◌, length, is_ok, Ok, Err, refl, sym, ap, ◌∙◌, arith}
+-- The fields that are left, behind one more.
+use Rattle.std.proofs.Common.{◌≡◌, ℕ, ◌<◌, ◌≤◌, List, [], ◌∷◌, length, Ok, Err, Result, refl, ap, ◌∙◌, arith}
 use Rattle.graph.specs.declared.fault.Reason.{Reason}
 use Rattle.graph.specs.Entries.{Entry}
+use Rattle.graph.specs.Opening.{Placed}
+use Rattle.sheet.specs.declared.field.Field.{Field}
+use Rattle.sheet.specs.Borrowed.{content_of, entry_of}
 use Rattle.sheet.specs.Fields.{next_at, field_at}
-use Rattle.sheet.specs.Opening.{Placed, fields_at}
+use Rattle.sheet.specs.Opening.{fields_at}
 use Rattle.sheet.specs.Reading.{readable}
-use Rattle.sheet.proofs.Stepping.{fields_more, fields_done}
+use Rattle.sheet.proofs.Stepping.{field, fields_more, fields_done}
 
 module _ (bytes : List ℕ) (p q : ℕ) (inside : p < length bytes) where
-  pub readable_more : (e : Entry) → field_at bytes p ≡ Ok e → q ≡ next_at bytes p → readable (fields_at bytes p) ≡ record { place = p; content = Ok e } ∷ readable (fields_at bytes q)
+  pub readable_more : (e : Entry) → field_at bytes p ≡ Ok e → q ≡ next_at bytes p → readable (fields_at bytes p) ≡ field p (Ok e) ∷ readable (fields_at bytes q)
   readable_more e read next = ap readable (fields_more bytes p inside) ∙ rw (read, next) refl
 
-  pub readable_last : (r : Reason) → field_at bytes p ≡ Err r → readable (fields_at bytes p) ≡ record { place = p; content = Err r } ∷ readable (fields_at bytes (length bytes))
+  pub readable_last : (r : Reason) → field_at bytes p ≡ Err r → readable (fields_at bytes p) ≡ field p (Err r) ∷ readable (fields_at bytes (length bytes))
   readable_last r read = ap readable (fields_more bytes p inside) ∙ rw (read, fields_done bytes (length bytes) (omega arith)) refl
+
+pub readable_none : (bytes : List ℕ) (p : ℕ) → length bytes ≤ p → readable (fields_at bytes p) ≡ []
+readable_none bytes p past = ap readable (fields_done bytes p past)
+
+-- what is left begins with a field that can be read, or with one that cannot
+module _ (left later : List Placed) (place : ℕ) (content : Result Field Reason) (steps : left ≡ field place (content_of content) ∷ later) where
+  pub begins_ok : (f : Field) → content ≡ Ok f → left ≡ field place (Ok (entry_of f)) ∷ later
+  begins_ok f is = steps ∙ ap (λ c. field place (content_of c) ∷ later) is
+
+  pub begins_err : (r : Reason) → content ≡ Err r → left ≡ field place (Err r) ∷ later
+  begins_err r is = steps ∙ ap (λ c. field place (content_of c) ∷ later) is

@@ -1,6 +1,7 @@
 pub mod Reading
 pub mod Stepping
 pub mod Going
+pub mod Reaching
 pub mod Remaining
 pub mod Naming
 pub mod Refusing

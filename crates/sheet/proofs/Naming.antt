@@ -1,74 +1,159 @@
 -- The names at the head of a sheet.
-use Rattle.std.proofs.Common.{◌≡◌, ℕ, ◌+◌, ◌<◌, ◌≤◌, true, false, ◌||◌, List, [], ◌∷◌, ◌++◌, map, length, Some, Ok, Err, sym, refl, ap, ◌∙◌, arith}
+use Rattle.std.proofs.Common.{◌≡◌, ℕ, ◌+◌, ◌<◌, ◌≤◌, Bool, true, false, not, ◌&&◌, ◌||◌, eqb, List, [], ◌∷◌, ◌++◌, map, length, take, get_or, Some, Ok, Err, Result, Bor, sym, refl, ap, ◌∙◌, subst, append_assoc, ◌≢◌}
 use Rattle.std.specs.Str.{bytes_eq}
-use Rattle.std.proofs.lemmas.List.{map_push}
+use Rattle.std.specs.List.{list_any}
+use Rattle.std.proofs.lemmas.List.{map_push, length_push, length-map}
+use Rattle.std.proofs.lemmas.List.Folds.{list_any_more, list_any_at}
 use Rattle.std.proofs.lemmas.Bool.{cond-true, cond-false, le-leb, lt-leb}
 use Rattle.graph.specs.declared.fault.Reason.{Reason}
 use Rattle.graph.specs.declared.fault.Reason.TheVariants.{BadName, OverLimit}
-use Rattle.graph.specs.Graphs.{no_records}
-use Rattle.graph.specs.Entries.{a_name}
+use Rattle.graph.specs.Graphs.{no_records, default_name}
+use Rattle.graph.specs.Entries.{Entry, a_name, a_module, a_star, an_import, an_export}
+use Rattle.graph.specs.Opening.{Placed}
 use Rattle.graph.specs.Rules.{listed, wrong_name}
 use Rattle.graph.proofs.Naming.{wrong_first, wrong_by_first, wrong_by_list, not_wrong}
-use Rattle.sheet.specs.Fields.{next_at, field_at, fault_at}
-use Rattle.sheet.specs.Borrowed.{entry_of, is_name}
+use Rattle.sheet.specs.Fields.{fault_at}
+use Rattle.sheet.specs.Borrowed.{entry_of, content_of, is_name}
 use Rattle.sheet.specs.declared.field.Field.{Field}
 use Rattle.sheet.specs.declared.field.Field.TheVariants.{Name, Module, Star, Import, Export}
-use Rattle.sheet.specs.Opening.{fields_at, gathered, entry_refusal, field_refusal}
-use Rattle.sheet.specs.Progressing.{Run, named, Headed}
-use Rattle.sheet.proofs.Stepping.{gathered_more, gathered_stop, run_push, run_le}
+use Rattle.sheet.specs.Opening.{gathered, field_refusal}
+use Rattle.sheet.specs.Progressing.{named, AreNames, Head}
+use Rattle.sheet.proofs.Refusing.{take-length-append}
+use Rattle.sheet.proofs.Stepping.{field, gathered_on, gathered_stop}
 
-module _ {bytes : List ℕ} {p : ℕ} {names : List (List ℕ)} (headed : Headed bytes p names) (inside : p < length bytes) where
-  -- a field that is refused ends the opening
-  pub field_refused : (reason : Reason) → field_refusal (named names) (field_at bytes p) ≡ Some reason → gathered no_records (fields_at bytes 0) ≡ Err (fault_at reason p)
-  field_refused reason refused = sym headed.on ∙ gathered_stop bytes p (named names) reason inside refused
+-- what a field says is a name, and equal to this one
+abbrev pub same_name : List ℕ → Result Entry Reason → Bool
+same_name name (Ok (a_name other)) = bytes_eq name other
+same_name name (Ok (a_module kind id)) = false
+same_name name (Ok (a_star target)) = false
+same_name name (Ok (an_import symbol target wanted)) = false
+same_name name (Ok (an_export n symbol)) = false
+same_name name (Err reason) = false
 
-  pub unread : (reason : Reason) → field_at bytes p ≡ Err reason → gathered no_records (fields_at bytes 0) ≡ Err (fault_at reason p)
-  unread reason e = field_refused reason (ap (field_refusal (named names)) e)
+pub name_test : (content : Result Field Reason) (name : List ℕ) → is_name content name ≡ same_name name (content_of content)
+name_test (Ok (Name bytes offset)) name = refl
+name_test (Ok (Module k id offset)) name = refl
+name_test (Ok (Star target)) name = refl
+name_test (Ok (Import symbol target wanted)) name = refl
+name_test (Ok (Export n symbol)) name = refl
+name_test (Err reason) name = refl
 
-  module _ {name : List ℕ} (read : field_at bytes p ≡ Ok (a_name name)) where
-    refused_name : (reason : Reason) → entry_refusal (named names) (a_name name) ≡ Some reason → gathered no_records (fields_at bytes 0) ≡ Err (fault_at reason p)
-    refused_name reason e = field_refused reason (ap (field_refusal (named names)) read ∙ e)
+-- the fields before what is left are names, as many as this, and opening goes on with what is left
+pub record Gone (all fields : List Placed) (count : ℕ) (left : List Placed) : Type 0 where
+  pub names : List (List ℕ)
+  pub gone : List Placed
+  pub split : fields ≡ gone ++ left
+  pub counted : length names ≡ count
+  pub are : AreNames gone names
+  pub on : gathered (named names) left ≡ gathered no_records all
 
-    bad_name : wrong_name names name ≡ true → gathered no_records (fields_at bytes 0) ≡ Err (fault_at BadName p)
-    bad_name h = refused_name BadName (cond-true _ _ _ h)
+-- whether one of these fields is the name
+abbrev pub repeated : List ℕ → List Placed → Bool
+repeated name fields = list_any (λ (x : Placed). same_name name x.content) fields
 
-    pub first_refused : wrong_first names name ≡ true → gathered no_records (fields_at bytes 0) ≡ Err (fault_at BadName p)
-    first_refused h = bad_name (wrong_by_first names name h)
+-- where they are names
+pub repeated_listed : (name : List ℕ) (fields : List Placed) (names : List (List ℕ)) → AreNames fields names → repeated name fields ≡ listed name names
+repeated_listed name [] [] are = refl
+repeated_listed name [] (n ∷ ns) are = absurd cc
+repeated_listed name (x ∷ xs) [] are = absurd cc
+repeated_listed name (x ∷ xs) (n ∷ ns) are =
+    let first : x.content ≡ Ok (a_name n) = cc in
+    let rest : AreNames xs ns = cc in
+    ap (λ c. same_name name c || repeated name xs) first ∙ ap (λ b. bytes_eq name n || b) (repeated_listed name xs ns rest)
 
-    pub repeated_refused : listed name names ≡ true → gathered no_records (fields_at bytes 0) ≡ Err (fault_at BadName p)
-    repeated_refused h = bad_name (wrong_by_list names name h)
+pub names_push : (fields : List Placed) (names : List (List ℕ)) (x : Placed) (name : List ℕ) → AreNames fields names → x.content ≡ Ok (a_name name) → AreNames (fields ++ (x ∷ [])) (names ++ (name ∷ []))
+names_push fields names x name are is = map_push (λ (y : Placed). y.content) fields x ∙ ap (λ cs. cs ++ (x.content ∷ [])) are ∙ ap (λ c. map (λ n. Ok (a_name n)) names ++ (c ∷ [])) is ∙ sym (map_push (λ n. Ok (a_name n)) names name)
 
-    pub limit_refused : wrong_first names name ≡ false → listed name names ≡ false → 1024 ≤ length names → gathered no_records (fields_at bytes 0) ≡ Err (fault_at OverLimit p)
-    limit_refused h k l = refused_name OverLimit (cond-false _ _ _ (not_wrong names name h k) ∙ cond-true _ _ _ (le-leb _ _ l))
+-- the first places hold no field that is the name
+pub repeated_more : (name : List ℕ) (fields : List Placed) (k : ℕ) (x : Placed) → repeated name (take k fields) ≡ false → k < length fields → x ≡ get_or fields k x → same_name name x.content ≡ false → repeated name (take (k + 1) fields) ≡ false
+repeated_more name fields k x before inside here other =
+    list_any_more (λ (y : Placed). same_name name y.content) fields k x inside
+    ∙ ap (λ b. b || same_name name (get_or fields k x).content) before
+    ∙ ap (λ (y : Placed). same_name name y.content) (sym here)
+    ∙ other
 
-    pub name_passes : wrong_first names name ≡ false → listed name names ≡ false → length names < 1024 → Headed bytes (next_at bytes p) (names ++ (name ∷ []))
-    name_passes h k l = record {
-      run = rw (map_push (λ n. a_name n) names name) (run_push bytes 0 (map (λ n. a_name n) names) p (a_name name) headed.run read);
-      on = sym (gathered_more bytes p (named names) (a_name name) inside read (cond-false _ _ _ (not_wrong names name h k) ∙ cond-false _ _ _ (lt-leb _ _ l))) ∙ headed.on;
+pub repeated_here : (name : List ℕ) (fields : List Placed) (k : ℕ) (x : Placed) → k < length fields → x ≡ get_or fields k x → same_name name x.content ≡ true → repeated name fields ≡ true
+repeated_here name fields k x inside here same = list_any_at (λ (y : Placed). same_name name y.content) fields k x inside (ap (λ (y : Placed). same_name name y.content) (sym here) ∙ same)
+
+-- no field but a name says a name
+only_name : (f : Field) (name : List ℕ) → ((bytes : Bor (List ℕ)) (offset : ℕ) → f ≡ Name bytes offset → ⊥) → Ok {B = Reason} (entry_of f) ≢ Ok (a_name name)
+only_name (Name bytes offset) name other e = other bytes offset refl
+only_name (Module kind id offset) name other e = absurd cc
+only_name (Star target) name other e = absurd cc
+only_name (Import symbol target wanted) name other e = absurd cc
+only_name (Export n symbol) name other e = absurd cc
+
+module _ {all fields left : List Placed} {count : ℕ} (so : Gone all fields count left) where
+  -- the names are the fields at the head
+  pub gone_first : take count fields ≡ so.gone
+  gone_first = ap (take count) so.split ∙ ap (λ n. take n (so.gone ++ left)) (sym (sym (length-map so.gone (λ (x : Placed). x.content)) ∙ ap length so.are ∙ length-map so.names (λ name. Ok {B = Reason} (a_name name)) ∙ so.counted)) ∙ take-length-append so.gone left
+
+  pub heads_none : left ≡ [] → Head all count left
+  heads_none none = record {
+    names = so.names;
+    counted = so.counted;
+    on = so.on;
+    other = λ x later name is. absurd (cons_none x later (sym is ∙ none));
+  }
+    where
+      cons_none : (x : Placed) (xs : List Placed) → x ∷ xs ≡ [] → ⊥
+      cons_none x xs e = absurd cc
+
+  module _ {place : ℕ} {content : Result Field Reason} {later : List Placed} (steps : left ≡ field place (content_of content) ∷ later) where
+    on_here : (c : Result Entry Reason) → content_of content ≡ c → gathered (named so.names) (field place c ∷ later) ≡ gathered no_records all
+    on_here c is = sym (ap (gathered (named so.names)) (steps ∙ ap (λ x. field place x ∷ later) is)) ∙ so.on
+
+    refused : (c : Result Entry Reason) → content_of content ≡ c → (reason : Reason) → field_refusal (named so.names) c ≡ Some reason → gathered no_records all ≡ Err (fault_at reason place)
+    refused c is reason why = sym (on_here c is) ∙ gathered_stop (named so.names) place c later reason why
+
+    pub unread : (reason : Reason) → content ≡ Err reason → gathered no_records all ≡ Err (fault_at reason place)
+    unread reason is = refused (Err reason) (ap content_of is) reason refl
+
+    -- behind the names a field stands that is none
+    pub heads : (f : Field) → content ≡ Ok f → ((bytes : Bor (List ℕ)) (offset : ℕ) → f ≡ Name bytes offset → ⊥) → Head all count left
+    heads f is other = record {
+      names = so.names;
+      counted = so.counted;
+      on = so.on;
+      other = λ x rest name first told. only_name f name other (sym (content_first x rest (sym steps ∙ first) ∙ ap content_of is) ∙ told);
     }
+      where
+        content_first : (x : Placed) (rest : List Placed) → field place (content_of content) ∷ later ≡ x ∷ rest → x.content ≡ content_of content
+        content_first x rest e = let first : x ≡ field place (content_of content) = cc in ap (λ (y : Placed). y.content) first
 
--- one of the earlier names, at q: the others stand behind it
-pub earlier_name : (bytes : List ℕ) (q p : ℕ) (rest : List (List ℕ)) → Run bytes q (map (λ n. a_name n) rest) p → q < p → (other : List ℕ) × (behind : List (List ℕ)) × (rest ≡ other ∷ behind) × (field_at bytes q ≡ Ok (a_name other)) × Run bytes (next_at bytes q) (map (λ n. a_name n) behind) p
-earlier_name bytes q p [] r h = absurd (omega arith)
-earlier_name bytes q p (x ∷ xs) r h = (x, xs, refl, r.0, r.1)
+    module _ (name : Bor (List ℕ)) (offset : ℕ) (is : content ≡ Ok (Name name offset)) where
+      bad_name : wrong_name so.names name.now ≡ true → gathered no_records all ≡ Err (fault_at BadName place)
+      bad_name h = refused (Ok (a_name name.now)) (ap content_of is) BadName (cond-true _ _ _ h)
 
--- no earlier name is left
-pub no_earlier : (bytes : List ℕ) (q p : ℕ) (rest : List (List ℕ)) → Run bytes q (map (λ n. a_name n) rest) p → p ≤ q → rest ≡ []
-no_earlier bytes q p [] r h = refl
-no_earlier bytes q p (x ∷ xs) r h = let k : next_at bytes q ≤ p = run_le bytes (next_at bytes q) (map (λ n. a_name n) xs) p r.1 in absurd (omega arith)
+      first_is : (b : Bool) → (eqb count 0 && not (bytes_eq name.now default_name)) ≡ b → wrong_first so.names name.now ≡ b
+      first_is b h = ap (λ n. eqb n 0 && not (bytes_eq name.now default_name)) so.counted ∙ h
 
--- what testing a field for a name tells of the name that the field has
-pub name_test : (f : Field) (name other : List ℕ) → entry_of f ≡ a_name other → is_name f name ≡ bytes_eq name other
-name_test (Name bytes offset) name other e = let same : bytes.now ≡ other = cc in ap (bytes_eq name) same
-name_test (Module k id offset) name other e = cc
-name_test (Star target) name other e = cc
-name_test (Import symbol target wanted) name other e = cc
-name_test (Export n symbol) name other e = cc
+      listed_is : (b : Bool) → repeated name.now (take count fields) ≡ b → listed name.now so.names ≡ b
+      listed_is b h = sym (repeated_listed name.now so.gone so.names so.are) ∙ sym (ap (repeated name.now) gone_first) ∙ h
 
--- going through the earlier names, for one that is equal
-module _ (names : List (List ℕ)) (name : List ℕ) {rest behind : List (List ℕ)} {other : List ℕ} (split : rest ≡ other ∷ behind) (same : listed name rest ≡ listed name names) where
-  pub listed_on : bytes_eq name other ≡ false → listed name behind ≡ listed name names
-  listed_on e = sym (ap (λ b. b || listed name behind) e) ∙ sym (ap (listed name) split) ∙ same
+      pub first_refused : (eqb count 0 && not (bytes_eq name.now default_name)) ≡ true → gathered no_records all ≡ Err (fault_at BadName place)
+      first_refused h = bad_name (wrong_by_first so.names name.now (first_is true h))
 
-  pub listed_here : bytes_eq name other ≡ true → listed name names ≡ true
-  listed_here e = sym same ∙ ap (listed name) split ∙ ap (λ b. b || listed name behind) e
+      pub repeated_refused : repeated name.now (take count fields) ≡ true → gathered no_records all ≡ Err (fault_at BadName place)
+      repeated_refused h = bad_name (wrong_by_list so.names name.now (listed_is true h))
+
+      module _ (first : (eqb count 0 && not (bytes_eq name.now default_name)) ≡ false) (once : repeated name.now (take count fields) ≡ false) where
+        right : wrong_name so.names name.now ≡ false
+        right = not_wrong so.names name.now (first_is false first) (listed_is false once)
+
+        pub limit_refused : 1024 ≤ count → gathered no_records all ≡ Err (fault_at OverLimit place)
+        limit_refused many = refused (Ok (a_name name.now)) (ap content_of is) OverLimit (cond-false _ _ _ right ∙ cond-true _ _ _ (le-leb _ _ (subst (λ n. 1024 ≤ n) (sym so.counted) many)))
+
+        pub name_passes : count < 1024 → Gone all fields (count + 1) later
+        name_passes few = record {
+          names = so.names ++ (name.now ∷ []);
+          gone = so.gone ++ (field place (Ok (a_name name.now)) ∷ []);
+          split = so.split ∙ ap (λ xs. so.gone ++ xs) (steps ∙ ap (λ c. field place c ∷ later) (ap content_of is)) ∙ sym (append_assoc so.gone (field place (Ok (a_name name.now)) ∷ []) later);
+          counted = length_push so.names name.now ∙ ap (λ n. n + 1) so.counted;
+          are = names_push so.gone so.names (field place (Ok (a_name name.now))) name.now so.are refl;
+          on = sym (gathered_on (named so.names) place (a_name name.now) later (cond-false _ _ _ right ∙ cond-false _ _ _ (lt-leb _ _ (subst (λ n. n < 1024) (sym so.counted) few)))) ∙ on_here (Ok (a_name name.now)) (ap content_of is);
+        }
+
+-- before the first name
+pub none_gone : (all fields : List Placed) → gathered no_records fields ≡ gathered no_records all → Gone all fields 0 fields
+none_gone all fields on = record { names = []; gone = []; split = refl; counted = refl; are = refl; on = on }

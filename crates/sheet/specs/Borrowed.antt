@@ -25,10 +25,11 @@ Begins (Star target) p = Unit {0}
 Begins (Import symbol target wanted) p = Unit {0}
 Begins (Export name symbol) p = Unit {0}
 
--- the field is this name
-abbrev pub is_name : Field → List ℕ → Bool
-is_name (Name bytes offset) name = bytes_eq name bytes.now
-is_name (Module kind id offset) name = false
-is_name (Star target) name = false
-is_name (Import symbol target wanted) name = false
-is_name (Export n symbol) name = false
+-- what was read is this name
+abbrev pub is_name : Result Field Reason → List ℕ → Bool
+is_name (Ok (Name bytes offset)) name = bytes_eq name bytes.now
+is_name (Ok (Module kind id offset)) name = false
+is_name (Ok (Star target)) name = false
+is_name (Ok (Import symbol target wanted)) name = false
+is_name (Ok (Export n symbol)) name = false
+is_name (Err reason) name = false

@@ -1,4 +1,4 @@
-ghost use Rattle.std.specs.Prelude.{◌≡◌, ℕ, ◌<◌, List, map, length, Some, None, Ok, Err, MatchResult, OnOk, ◌==◌, ◌≢◌};
+ghost use Rattle.std.specs.Prelude.{◌≡◌, ℕ, List, ◌∷◌, map, length, take, Some, None, Ok, Err, MatchResult, OnOk, ◌==◌, ◌≢◌};
 ghost use Rattle.graph.specs.Graphs.{Graph, no_records};
 ghost use Rattle.graph.specs.Entries.{Entry, a_name};
 ghost use Rattle.graph.specs.Rules.{owned_refusal};
@@ -7,14 +7,16 @@ ghost use Rattle.graph.specs.Soundness.{Sound};
 ghost use Rattle.sheet.specs.Borrowed.{entry_of};
 ghost use Rattle.sheet.specs.Opening.{fields_at, gathered, entry_refusal, aims, too_long, finished, opened};
 ghost use Rattle.sheet.specs.Foremost.{FirstFault};
-ghost use Rattle.sheet.specs.Progressing.{Run, Head, Standing, Counted, clash, clashes, latest_is_es, Roomy, Advanced, aim_by};
+ghost use Rattle.sheet.specs.Progressing.{Head, Standing, Counted, clash_content, clashes, latest_is_es, Roomy, Advanced, aim_by};
+ghost use Rattle.sheet.specs.Reading.{placed_of, fields_left};
+ghost use Rattle.graph.specs.Opening.{Placed};
 
-use super::field::{Field, read_field, sheet_fault};
-use super::fields::Fields;
+use super::field::{Field, sheet_fault};
+use super::fields::{FieldAt, Fields};
 use super::names::{Names, read_names};
 use super::progress::Progress;
+use arrayvec::ArrayVec;
 use graph::fault::{Fault, Reason};
-use graph::limits::MOST_MODULES;
 use graph::lookups::element_at;
 use graph::records::Kind;
 use graph::rules::{is_es, owned_refusal, star_aim};
@@ -23,49 +25,53 @@ use graph::rules::{is_es, owned_refusal, star_aim};
 pub const MOST_BYTES: usize = 60000;
 
 // Whether `field` may not stand behind `earlier` in one module.
-fn clashes_with(field: Field, earlier: Field) -> bool
-    ensures { result ≡ clash (entry_of field.entry) (entry_of earlier.entry) }
+fn clashes_with(field: Field, earlier: FieldAt) -> bool
+    ensures { result ≡ clash_content (entry_of field.entry) (placed_of earlier.entry).content }
 {
-    match (field, earlier) {
-        (Field::Export { name, .. }, Field::Export { name: other, .. }) => other == name,
-        (Field::Import { symbol, .. }, Field::Import { symbol: other, .. }) => other == symbol,
+    match (field, earlier.content) {
+        (Field::Export { name, .. }, Ok(Field::Export { name: other, .. })) => other == name,
+        (Field::Import { symbol, .. }, Ok(Field::Import { symbol: other, .. })) => other == symbol,
         _ => false,
     }
 }
 
-// Whether `field` may not stand behind one of the fields from `from` up to `to`.
-fn clashes_in(bytes: &[u8], from: usize, to: usize, field: Field) -> bool
-    ensures { (es : List Entry) → Run bytes.now from es to → result ≡ clashes (entry_of field.entry) es }
-{
-    let mut at = from;
-    while at < to {
-        let Ok(read) = read_field(bytes, at) else {
-            return false;
-        };
-        if clashes_with(field, read.field) {
-            return true;
+impl<'a> Progress<'a> {
+    // Behind the names.
+    fn behind(names: Names<'a>) -> Self
+        ensures { (all : List Placed) → Head all names.entry.count (fields_left names.entry.behind) → (g : Graph) × Standing all result (fields_left names.entry.behind) g }
+    {
+        Progress {
+            names: names.count,
+            stars: 0,
+            imports: 0,
+            exports: 0,
+            kinds: ArrayVec::new(),
+            own: names.behind,
+            owned: 0,
         }
-        at = read.next;
     }
-    false
-}
 
-impl Progress {
     fn latest_is_es(&self) -> bool
         ensures { result ≡ latest_is_es self.now }
     {
-        if self.modules == 0 {
-            return false;
-        }
-        is_es(element_at(&self.kinds[0..self.modules], self.modules - 1))
+        is_es(self.kinds.as_slice().last().copied())
+    }
+
+    // Whether a record of the latest module clashes with `field`.
+    fn clashes(&self, field: Field) -> bool
+        ensures { result ≡ clashes (entry_of field.entry) (take self.now.owned (fields_left self.now.own)) }
+    {
+        self.own
+            .take(self.owned)
+            .any(|earlier| clashes_with(field, earlier))
     }
 
     // Why a star record, an import or an export is refused, where there are `count` of its sort.
     fn owned_refusal(&self, count: usize, unknown: bool, twice: bool) -> Option<Reason>
-        ensures { result ≡ owned_refusal (self.now.modules == 0) count unknown twice (latest_is_es self.now) }
+        ensures { result ≡ owned_refusal (length self.now.kinds.items == 0) count unknown twice (latest_is_es self.now) }
     {
         owned_refusal(
-            self.modules == 0,
+            self.kinds.is_empty(),
             count,
             unknown,
             twice,
@@ -73,89 +79,76 @@ impl Progress {
         )
     }
 
-    // Why `field`, which begins at `self.at`, is refused behind what came before.
-    fn refusal(&self, bytes: &[u8], field: Field) -> Option<Reason>
-        ensures first { (g : Graph) → Standing bytes.now self.now g → ((name : List ℕ) → self.now.modules ≡ 0 → entry_of field.entry ≢ a_name name) → result ≡ entry_refusal g (entry_of field.entry) }
+    // Why `field` is refused behind what came before.
+    fn refusal(&self, field: Field) -> Option<Reason>
+        ensures first { (all left : List Placed) (g : Graph) → Standing all self.now left g → ((name : List ℕ) → length g.modules ≡ 0 → entry_of field.entry ≢ a_name name) → result ≡ entry_refusal g (entry_of field.entry) }
         ensures roomy { result ≡ None → Roomy self.now (entry_of field.entry) }
     {
         match field {
             Field::Name { .. } => Some(Reason::OutOfOrder),
-            Field::Module { .. } if self.modules >= MOST_MODULES => Some(Reason::OverLimit),
+            Field::Module { .. } if self.kinds.is_full() => Some(Reason::OverLimit),
             Field::Module { .. } => None,
             Field::Star { .. } => self.owned_refusal(self.stars, false, false),
             Field::Import { wanted, .. } => {
                 let unknown = wanted.is_unknown(self.names);
-                let twice = clashes_in(bytes, self.own, self.at, field);
-                self.owned_refusal(self.imports, unknown, twice)
+                self.owned_refusal(self.imports, unknown, self.clashes(field))
             }
             Field::Export { name, .. } => {
                 let unknown = usize::from(name) >= self.names;
-                let twice = clashes_in(bytes, self.own, self.at, field);
-                self.owned_refusal(self.exports, unknown, twice)
+                self.owned_refusal(self.exports, unknown, self.clashes(field))
             }
         }
     }
 
-    // Counts `field`, which ends at `next`.
-    fn add(&mut self, field: Field, next: usize)
+    // Counts `field`. The fields behind it are `behind`.
+    fn add(&mut self, field: Field, behind: Fields<'a>)
         requires { Roomy self.old (entry_of field) }
-        ensures { Advanced self.old (entry_of field.entry) next self.new }
+        ensures { Advanced self.old (entry_of field.entry) behind.entry self.new }
     {
-        self.at = next;
         match field {
             Field::Name { .. } => {}
             Field::Module { kind, .. } => {
-                self.kinds[self.modules] = kind;
-                self.modules += 1;
-                self.own = next;
+                self.kinds.push(kind);
+                self.own = behind;
+                self.owned = 0;
             }
-            Field::Star { .. } => self.stars += 1,
-            Field::Import { .. } => self.imports += 1,
-            Field::Export { .. } => self.exports += 1,
+            Field::Star { .. } => {
+                self.stars += 1;
+                self.owned += 1;
+            }
+            Field::Import { .. } => {
+                self.imports += 1;
+                self.owned += 1;
+            }
+            Field::Export { .. } => {
+                self.exports += 1;
+                self.owned += 1;
+            }
         }
     }
 
-    // Checks the field at `self.at`, and goes past it.
-    fn take(&mut self, bytes: &[u8]) -> Result<(), Fault>
-        ensures next { (g : Graph) → Standing bytes.now self.old g → self.old.at < length bytes.now → MatchResult result (λ _. (h : Graph) × Standing bytes.now self.new h) (λ f. gathered no_records (fields_at bytes.now 0) ≡ Err f) }
-        ensures moved { OnOk result (self.old.at < self.new.at) }
+    // Checks the field that is next, and counts it. The fields behind it are `behind`.
+    fn take(&mut self, next: FieldAt<'a>, behind: Fields<'a>) -> Result<(), Fault>
+        ensures { (all : List Placed) (g : Graph) → Standing all self.old (placed_of next.entry ∷ fields_left behind.entry) g → MatchResult result (λ _. (h : Graph) × Standing all self.new (fields_left behind.entry) h) (λ f. gathered no_records all ≡ Err f) }
     {
-        let read = read_field(bytes, self.at)?;
-        if let Some(reason) = self.refusal(bytes, read.field) {
-            return Err(sheet_fault(reason, self.at));
+        let field = next.field()?;
+        if let Some(reason) = self.refusal(field) {
+            return Err(sheet_fault(reason, next.place));
         }
-        self.add(read.field, read.next);
-        Ok(())
-    }
-
-    // Checks the fields from `self.at` on, one by one.
-    fn take_all(&mut self, bytes: &[u8]) -> Result<(), Fault>
-        requires { (g : Graph) × Standing bytes.now self.old g }
-        ensures { MatchResult result (λ _. (g : Graph) × Counted self.new g × (gathered no_records (fields_at bytes.now 0) ≡ Ok g)) (λ f. gathered no_records (fields_at bytes.now 0) ≡ Err f) }
-    {
-        while self.at < bytes.len() {
-            self.take(bytes)?;
-        }
+        self.add(field, behind);
         Ok(())
     }
 }
 
 // Checks the fields behind the names, one by one.
-fn check_records(bytes: &[u8], names: Names) -> Result<Progress, Fault>
-    requires { Head bytes.now names.end names.count }
-    ensures { MatchResult result (λ (s : Progress). (g : Graph) × Counted s g × (gathered no_records (fields_at bytes.now 0) ≡ Ok g)) (λ f. gathered no_records (fields_at bytes.now 0) ≡ Err f) }
+fn check_records(names: Names) -> Result<Progress, Fault>
+    ensures { (all : List Placed) → Head all names.entry.count (fields_left names.entry.behind) → MatchResult result (λ (s : Progress). (g : Graph) × Counted s g × (gathered no_records all ≡ Ok g)) (λ f. gathered no_records all ≡ Err f) }
 {
-    let mut progress = Progress {
-        at: names.end,
-        names: names.count,
-        modules: 0,
-        stars: 0,
-        imports: 0,
-        exports: 0,
-        own: names.end,
-        kinds: [Kind::Es; MOST_MODULES],
-    };
-    progress.take_all(bytes)?;
+    let mut progress = Progress::behind(names);
+    let mut left = names.behind;
+    while let Some(next) = left.next() {
+        progress.take(next, left)?;
+    }
     Ok(progress)
 }
 
@@ -204,7 +197,7 @@ fn finish(bytes: &[u8], progress: &Progress) -> Result<(), Fault>
     if progress.names == 0 {
         return Err(sheet_fault(Reason::BadName, bytes.len()));
     }
-    check_targets(bytes, &progress.kinds[0..progress.modules])
+    check_targets(bytes, progress.kinds.as_slice())
 }
 
 // Opens a sheet: nothing stands in the way, or its first fault does.
@@ -214,6 +207,6 @@ pub fn open(bytes: &[u8]) -> Result<(), Fault>
 {
     check_length(bytes)?;
     let names = read_names(bytes)?;
-    let progress = check_records(bytes, names)?;
+    let progress = check_records(names)?;
     finish(bytes, &progress)
 }

@@ -3,61 +3,61 @@ ghost use Rattle.graph.specs.Graphs.{no_records};
 ghost use Rattle.sheet.specs.Borrowed.{is_name};
 ghost use Rattle.sheet.specs.Opening.{fields_at, gathered};
 ghost use Rattle.sheet.specs.Progressing.{Head};
+ghost use Rattle.sheet.specs.Reading.{fields_left};
 
-use super::field::{Field, read_field, sheet_fault};
+use super::field::{Field, sheet_fault};
+use super::fields::{FieldAt, Fields};
 use graph::fault::{Fault, Reason};
 use graph::limits::MOST_NAMES;
 use graph::rules::{is_wrong_first, same_bytes};
 
-// The names at the head of a sheet: how many, and where they end.
+// The names at the head of a sheet: how many, and the fields behind them.
 #[derive(Clone, Copy)]
-pub struct Names {
+pub struct Names<'a> {
     pub count: usize,
-    pub end: usize,
+    pub behind: Fields<'a>,
 }
 
 // Whether a field is this name.
-fn is_name(field: Field, name: &[u8]) -> bool
-    ensures { result ≡ is_name field.entry name.now }
+fn is_name(field: FieldAt, name: &[u8]) -> bool
+    ensures { result ≡ is_name field.entry.content name.now }
 {
-    match field {
-        Field::Name { bytes, .. } => same_bytes(name, bytes),
+    match field.content {
+        Ok(Field::Name { bytes, .. }) => same_bytes(name, bytes),
         _ => false,
     }
 }
 
 // Reads the names at the head of a sheet, up to the first field that is no name.
-pub fn read_names(bytes: &[u8]) -> Result<Names, Fault>
-    ensures { MatchResult result (λ (h : Names). Head bytes.now h.end h.count) (λ e. gathered no_records (fields_at bytes.now 0) ≡ Err e) }
+pub fn read_names(bytes: &[u8]) -> Result<Names<'_>, Fault>
+    ensures { MatchResult result (λ (h : Names). Head (fields_at bytes.now 0) h.count (fields_left h.behind)) (λ e. gathered no_records (fields_at bytes.now 0) ≡ Err e) }
 {
-    let mut at = 0;
+    let all = Fields::of(bytes);
+    let mut left = all;
+    let mut behind = all;
     let mut count = 0;
     let mut repeated = None;
-    'names: while at < bytes.len() {
-        let read = read_field(bytes, at)?;
-        let Field::Name { bytes: name, .. } = read.field else {
+    'names: while let Some(next) = left.next() {
+        let Field::Name { bytes: name, .. } = next.field()? else {
             break 'names;
         };
         if is_wrong_first(count, name) {
-            return Err(sheet_fault(Reason::BadName, at));
+            return Err(sheet_fault(Reason::BadName, next.place));
         }
-        let mut earlier = 0;
-        while earlier < at {
-            let other = read_field(bytes, earlier)?;
-            if is_name(other.field, name) {
-                repeated = Some(at);
+        for earlier in all.take(count) {
+            if is_name(earlier, name) {
+                repeated = Some(next.place);
                 break 'names;
             }
-            earlier = other.next;
         }
         if count >= MOST_NAMES {
-            return Err(sheet_fault(Reason::OverLimit, at));
+            return Err(sheet_fault(Reason::OverLimit, next.place));
         }
-        at = read.next;
+        behind = left;
         count += 1;
     }
     match repeated {
         Some(place) => Err(sheet_fault(Reason::BadName, place)),
-        None => Ok(Names { count, end: at }),
+        None => Ok(Names { count, behind }),
     }
 }

@@ -1,20 +1,24 @@
-ghost use Rattle.std.specs.Prelude.{◌≤◌};
+ghost use Rattle.std.specs.Prelude.{◌≤◌, ◌+◌};
 
+use super::fields::Fields;
+use arrayvec::ArrayVec;
 use graph::limits::MOST_MODULES;
 use graph::records::Kind;
 
-// What the fields before `at` have come to.
+// What the fields so far have come to.
 #[derive(Drop)]
-pub struct Progress {
-    pub at: usize,
+pub struct Progress<'a> {
     pub names: usize,
-    pub modules: usize,
     pub stars: usize,
     pub imports: usize,
     pub exports: usize,
-    // where the records of the latest module begin
-    pub own: usize,
-    // of the modules so far
-    pub kinds: [Kind; MOST_MODULES],
-    ghost few: { modules ≤ 256 },
+    // of the modules
+    pub kinds: ArrayVec<Kind, MOST_MODULES>,
+    // the fields behind the latest module, and how many of them were its records
+    pub own: Fields<'a>,
+    pub owned: usize,
+    ghost few_stars: { stars ≤ 1024 },
+    ghost few_imports: { imports ≤ 1024 },
+    ghost few_exports: { exports ≤ 1024 },
+    ghost within: { owned ≤ stars + imports + exports },
 }

@@ -1,44 +1,24 @@
-use Rattle.std.proofs.Common.{◌≡◌, Ok, Err, sym, ap, ◌∙◌, subst, arith}
-use Rattle.std.proofs.lemmas.Result.{err_from_is_err_and, IfOk-from_err}
-use Rattle.sheet.specs.Borrowed.{entry_of}
-use Rattle.graph.specs.Opening.{latest}
-use Rattle.sheet.specs.Opening.{field_refusal}
-use Rattle.sheet.specs.Progressing.{Advanced}
+use Rattle.std.proofs.Common.{Ok, Err, ◌∷◌, sym, refl, ap, ◌∙◌, subst}
 use Rattle.graph.specs.Entries.{grown}
-use Rattle.sheet.proofs.Advancing.{passes, stops, advanced_at}
+use Rattle.graph.specs.Opening.{Placed, latest}
+use Rattle.sheet.specs.Borrowed.{content_of, entry_of}
+use Rattle.sheet.specs.Opening.{field_refusal}
+use Rattle.sheet.specs.Progressing.{Standing}
+use Rattle.sheet.specs.Reading.{fields_left}
+use Rattle.sheet.proofs.Advancing.{passes, stops}
+use Rattle.sheet.proofs.Stepping.{field}
 use Rattle.sheet.proofs.progress.Progress.take.Goals as goal
 
-pub returns-in_err-read : goal.returns-in_err-read
-returns-in_err-read c =
-    let p = err_from_is_err_and c.from_residual.result c.from_residual.ensures.1 in
-    let failed = c.in_err-read.ensures in
-    record {
-      next = λ g standing inside. rw (p.1, p.2) (stops c.args.bytes.now c.args.self.now g standing inside _ (ap (field_refusal g) failed.0) ∙ ap (λ f. Err f) (sym failed.1));
-      moved = IfOk-from_err _ _ c.from_residual.ensures.0;
-    }
-
 pub returns-in-Some : goal.returns-in-Some
-returns-in-Some c =
-    let read = c.in_ok-read.ensures in
-    record {
-      next = λ g standing inside.
-          stops c.args.bytes.now c.args.self.now g standing inside c.in-Some.reason
-          (ap (field_refusal g) read.0 ∙ sym (c.in-Some.ensures.first g standing (λ name zero is. standing.named zero name inside (read.0 ∙ ap (λ e. Ok e) is))))
-          ∙ ap (λ f. Err f) (sym c.sheet_fault.ensures);
-      moved = tt;
-    }
+returns-in-Some c = λ all g standing.
+    let read = ap content_of c.in_ok-field.ensures in
+    stops all c.args.self.now c.args.next.place (content_of c.args.next.content) (fields_left c.args.behind) g standing c.in-Some.reason
+    (ap (field_refusal g) read ∙ sym (c.in-Some.ensures.first all _ g standing (λ name zero is. standing.named zero _ _ name refl (read ∙ ap (λ e. Ok e) is))))
+    ∙ ap (λ f. Err f) (sym c.sheet_fault.ensures)
 
 pub returns : goal.returns
-returns c =
-    let read = c.in_ok-read.ensures in
-    let s = c.args.self.now in
-    let e = entry_of c.in_ok-read.read.field in
-    record {
-      next = λ g standing inside. (
-        grown g (latest g) e,
-        passes c.args.bytes.now s c.add.new.self g standing inside e read.0
-            (sym (c.in_default.ensures.first g standing (λ name zero is. standing.named zero name inside (read.0 ∙ ap (λ x. Ok x) is))))
-            (subst (λ p. Advanced s e p c.add.new.self) read.1 c.add.ensures),
-      );
-      moved = let at : c.add.new.self.at ≡ c.in_ok-read.read.next = advanced_at s e c.in_ok-read.read.next c.add.new.self c.add.ensures in omega (arith, at, read.1);
-    }
+returns c = λ all g standing.
+    let read = ap content_of c.in_ok-field.ensures in
+    let e = entry_of c.in_ok-field.field in
+    let told : Standing all c.args.self.now (field c.args.next.place (Ok e) ∷ fields_left c.args.behind) g = subst (λ content. Standing all c.args.self.now (field c.args.next.place content ∷ fields_left c.args.behind) g) read standing in
+    (grown g (latest g) e, passes all c.args.self.now c.add.new.self c.args.next.place e c.args.behind g told (sym (c.in_default.ensures.first all _ g standing (λ name zero is. standing.named zero _ _ name refl (read ∙ ap (λ x. Ok x) is)))) c.add.ensures)
