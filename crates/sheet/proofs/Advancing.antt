@@ -13,10 +13,10 @@ use Rattle.graph.specs.Graphs.{Graph, Module, no_records}
 use Rattle.graph.specs.Entries.{Entry, a_name, a_module, a_star, an_import, an_export, grown}
 use Rattle.graph.specs.Lookups.{kind_of, kind_in, symbol_in, import_in}
 use Rattle.graph.specs.Rules.{given_twice, is_es, wants_unknown, owned_refusal}
+use Rattle.graph.specs.Opening.{latest}
 use Rattle.graph.proofs.Finding.{or_last, or_assoc, symbol_push, import_push, symbol_none, import_none}
 use Rattle.sheet.specs.declared.progress.Progress.{Progress}
 use Rattle.sheet.specs.Fields.{next_at, field_at, fault_at}
-use Rattle.graph.specs.Opening.{latest}
 use Rattle.sheet.specs.Opening.{entry_refusal, field_refusal, fields_at, gathered}
 use Rattle.sheet.specs.Progressing.{Run, Head, named, Standing, Counts, Advanced, clash, clashes}
 use Rattle.sheet.proofs.Stepping.{gathered_more, gathered_stop, fields_done, run_push}

@@ -1,6 +1,8 @@
 -- The last checks: module numbers and star targets.
 use Rattle.std.proofs.Common.{◌≡◌, ℕ, ◌<◌, ◌≤◌, cond, leb, List, map, length, Some, None, Ok, Err, sym, refl, ap, ◌∙◌}
 use Rattle.std.proofs.lemmas.List.{length-map}
+use Rattle.std.proofs.lemmas.Option.{slice_get-map}
+use Rattle.graph.specs.declared.fault.Layer.TheVariants as layer
 use Rattle.graph.specs.declared.fault.Reason.{Reason}
 use Rattle.graph.specs.declared.fault.Reason.TheVariants.{NoRecord}
 use Rattle.graph.specs.declared.records.Kind.{Kind}
@@ -8,11 +10,9 @@ use Rattle.graph.specs.Graphs.{Graph}
 use Rattle.graph.specs.Entries.{Entry, a_name, a_module, a_star, an_import, an_export}
 use Rattle.graph.specs.Lookups.{kind_of}
 use Rattle.graph.specs.Rules.{aim_refusal, star_aim, placed, either_fault}
-use Rattle.std.proofs.lemmas.Option.{slice_get-map}
+use Rattle.graph.specs.Opening.{content_aim}
 use Rattle.graph.proofs.Aiming.{star_aims}
 use Rattle.sheet.specs.Fields.{next_at, field_at, fault_at}
-use Rattle.graph.specs.declared.fault.Layer.TheVariants as layer
-use Rattle.graph.specs.Opening.{content_aim}
 use Rattle.sheet.specs.Opening.{fields_at, aims}
 use Rattle.sheet.specs.Progressing.{aim_by}
 use Rattle.sheet.proofs.Stepping.{fields_more, fields_done}

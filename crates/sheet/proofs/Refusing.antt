@@ -2,14 +2,14 @@
 use Rattle.std.proofs.Common.{◌≡◌, ℕ, ◌-◌, ◌<◌, Bool, false, eqb, leb, List, map, length, None, sym, ap, ◌∙◌, subst, arith}
 use Rattle.std.specs.List.{slice_get}
 use Rattle.std.proofs.lemmas.Bool.Decides.{nat_tests}
+use Rattle.std.proofs.lemmas.Option.{slice_get-map}
 use Rattle.graph.specs.declared.records.Wanted.{Wanted}
 use Rattle.graph.specs.Graphs.{Graph}
 use Rattle.graph.specs.Entries.{Entry, a_star, an_import, an_export}
 use Rattle.graph.specs.Lookups.{kind_of, kind_in}
 use Rattle.graph.specs.Rules.{wants_unknown, given_twice, is_es, owned_refusal}
-use Rattle.sheet.specs.declared.progress.Progress.{Progress}
 use Rattle.graph.specs.Opening.{latest}
-use Rattle.std.proofs.lemmas.Option.{slice_get-map}
+use Rattle.sheet.specs.declared.progress.Progress.{Progress}
 use Rattle.sheet.specs.Opening.{entry_refusal}
 use Rattle.sheet.specs.Progressing.{Run, Counted, Standing, Roomy, clashes, latest_is_es}
 

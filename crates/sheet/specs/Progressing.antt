@@ -10,9 +10,9 @@ use Rattle.graph.specs.Graphs.{Graph, no_records}
 use Rattle.graph.specs.Entries.{Entry, a_name, a_module, a_star, an_import, an_export}
 use Rattle.graph.specs.Lookups.{kind_of}
 use Rattle.graph.specs.Rules.{given_twice, is_es, star_aim}
+use Rattle.graph.specs.Opening.{latest}
 use Rattle.sheet.specs.declared.progress.Progress.{Progress}
 use Rattle.sheet.specs.Fields.{next_at, field_at}
-use Rattle.graph.specs.Opening.{latest}
 use Rattle.sheet.specs.Opening.{fields_at, gathered}
 
 -- the fields from p up to q are these records
