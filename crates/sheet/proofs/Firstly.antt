@@ -1,5 +1,5 @@
 -- What opening refuses a sheet for is its first fault.
-use Rattle.std.proofs.Common.{◌≡◌, ℕ, ◌≤◌, ltb, List, length, Some, None, Ok, Err, Result, ap, ◌∙◌, subst, ⊎_elim, MatchResult}
+use Rattle.std.proofs.Common.{◌≡◌, ℕ, ltb, List, length, Some, Ok, Err, Result, ap, ◌∙◌, subst, ⊎_elim, MatchResult}
 use Rattle.std.proofs.lemmas.Bool.{cond-true, cond-false, ltb-true, ltb-false, lt-ltb, le-ltb}
 use Rattle.graph.specs.declared.fault.Fault.{Fault}
 use Rattle.graph.specs.declared.fault.Layer.TheVariants as layer

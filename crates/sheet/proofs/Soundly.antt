@@ -1,5 +1,5 @@
 -- The graph of any bytes is sound.
-use Rattle.std.proofs.Common.{◌≡◌, ℕ, zero, suc, ◌+◌, eqb, ltb, List, length, get_or, drop, Ok, subst, arith}
+use Rattle.std.proofs.Common.{◌≡◌, ℕ, zero, suc, ◌+◌, eqb, ltb, List, length, get_or, drop, Ok, subst}
 use Rattle.std.specs.List.{AllByRecursion}
 use Rattle.std.proofs.lemmas.Bool.{cond_both}
 use Rattle.graph.specs.declared.fault.Layer.TheVariants as layer

@@ -1,10 +1,12 @@
 -- The answers of a sheet are those of its graph.
-use Rattle.std.proofs.Common.{◌≡◌, ℕ, ◌≤◌, Bool, true, false, cond, ◌&&◌, eqb, ltb, List, [], ◌∷◌, ◌++◌, map, length, is_some, is_ok, Some, None, Ok, Err, Option, Result, sym, refl, ap, ◌∙◌, append_assoc}
-use Rattle.std.specs.List.{slice_get}
+use Rattle.std.proofs.Common.{◌≡◌, ℕ, zero, suc, ◌≤◌, Bool, true, false, cond, ◌&&◌, eqb, ltb, List, [], ◌∷◌, ◌++◌, map, length, is_some, is_ok, Some, None, Ok, Err, Option, Result, sym, refl, ap, ◌∙◌, append_assoc}
+use Rattle.std.specs.List.{slice_get, AllByRecursion}
 use Rattle.std.specs.Option.{option_map}
 use Rattle.std.proofs.lemmas.List.{append-nil, length_push, length-map, map_push}
-use Rattle.std.proofs.lemmas.Bool.{ltb-false, false≢true}
+use Rattle.std.proofs.lemmas.Option.{slice_get-map}
+use Rattle.std.proofs.lemmas.Bool.{cond_both, ltb-false, false≢true}
 use Rattle.graph.specs.declared.fault.Fault.{Fault}
+use Rattle.graph.specs.declared.fault.Layer.TheVariants as layer
 use Rattle.graph.specs.declared.fault.Reason.{Reason}
 use Rattle.graph.specs.declared.records.Star.{Star}
 use Rattle.graph.specs.declared.records.Import.{Import}
@@ -12,11 +14,12 @@ use Rattle.graph.specs.declared.records.Export.{Export}
 use Rattle.graph.specs.Graphs.{Graph, no_records}
 use Rattle.graph.specs.Entries.{Entry, a_name, a_module, a_star, an_import, an_export, grown}
 use Rattle.graph.specs.Lookups.{kind_of, kind_in, targets_in, exports_in, symbol_in, import_in}
-use Rattle.graph.specs.Rules.{unless, and_then}
+use Rattle.graph.specs.Rules.{placed, unless, and_then}
+use Rattle.graph.specs.Opening.{Placed, latest, content_refusal, with_content, no_name, or_only_default}
 use Rattle.sheet_source.specs.declared.search.Sought.TheVariants as sought
-use Rattle.sheet.specs.Opening.{Placed, latest, field_refusal, with_field, sheet_fault, gathered, fields_at, aims, too_long, no_name, finished, opened, or_only_default, graph_of, entry_then, entries_of, entries}
+use Rattle.sheet.specs.Fields.{next_at}
+use Rattle.sheet.specs.Opening.{fields_from, gathered, fields_at, aims, too_long, finished, opened, graph_of, entry_then, entries_of, entries}
 use Rattle.sheet_source.specs.Searching.{Owned, owned, modules_after, entry_kind, entry_target, entry_import, entry_export, passes, found, sought_from}
-use Rattle.sheet.proofs.Refusing.{nth_map}
 use Rattle.sheet_source.proofs.Choosing.{one, chosen, bound, chosen_chosen, length_chosen, nth_chosen}
 
 -- g with these records behind its own
@@ -28,13 +31,19 @@ unless_passes : {A : Type 0} (o : Option Fault) (r : Result A Fault) (x : A) →
 unless_passes None r x e = (refl, e)
 unless_passes (Some f) r x e = absurd (false≢true (cc e))
 
-gathered_built : (g : Graph) (fs : List Placed) (h : Graph) → gathered g fs ≡ Ok h → h ≡ built g (entries_of fs)
-gathered_built g [] h e = cc e
-gathered_built g (f ∷ fs) h e = by_content f.content (unless_passes (sheet_fault (field_refusal g f.content) f.place) (gathered (with_field g f.content) fs) h e) (λ g'. gathered_built g' fs h)
+-- no owner is written in a field
+ownerless : (steps : ℕ) (bytes : List ℕ) (p : ℕ) → AllByRecursion (λ (f : Placed). f.owner ≡ None) (fields_from steps bytes p)
+ownerless zero bytes p = tt
+ownerless (suc steps) bytes p = cond_both (ltb p (length bytes)) _ _ (AllByRecursion (λ (f : Placed). f.owner ≡ None)) (λ _. (refl, ownerless steps bytes (next_at bytes p))) (λ _. tt)
+
+gathered_built : (g : Graph) (fs : List Placed) (h : Graph) → AllByRecursion (λ (f : Placed). f.owner ≡ None) fs → gathered g fs ≡ Ok h → h ≡ built g (entries_of fs)
+gathered_built g [] h none e = cc e
+gathered_built g (f ∷ fs) h none e = by_content f.owner none.0 f.content (unless_passes (placed layer.Sheet (content_refusal g f.owner f.content) f.place) (gathered (with_content g f.owner f.content) fs) h e) (λ g'. gathered_built g' fs h none.1)
   where
-    by_content : (c : Result Entry Reason) → (sheet_fault (field_refusal g c) f.place ≡ None) × (gathered (with_field g c) fs ≡ Ok h) → ((g' : Graph) → gathered g' fs ≡ Ok h → h ≡ built g' (entries_of fs)) → h ≡ built g (entry_then c (entries_of fs))
-    by_content (Err r) p rest = absurd (false≢true (cc p.0))
-    by_content (Ok e') p rest = rest (grown g (latest g) e') p.1
+    by_content : (o : Option ℕ) → o ≡ None → (c : Result Entry Reason) → (placed layer.Sheet (content_refusal g o c) f.place ≡ None) × (gathered (with_content g o c) fs ≡ Ok h) → ((g' : Graph) → gathered g' fs ≡ Ok h → h ≡ built g' (entries_of fs)) → h ≡ built g (entry_then c (entries_of fs))
+    by_content o is (Err r) p rest = absurd (false≢true (cc p.0))
+    by_content None is (Ok e') p rest = rest (grown g (latest g) e') p.1
+    by_content (Some m) is (Ok e') p rest = absurd (false≢true (cc is))
 
 and_then_passes : {A B : Type 0} (r : Result A Fault) (next : A → Result B Fault) (y : B) → and_then r next ≡ Ok y → (x : A) × (r ≡ Ok x) × (next x ≡ Ok y)
 and_then_passes (Ok x) next y e = (x, refl, e)
@@ -45,10 +54,10 @@ opened_built : (bytes : List ℕ) (h : Graph) → opened bytes ≡ Ok h → (h �
 opened_built bytes h e =
     let short = unless_passes (too_long bytes) _ h e in
     let all = and_then_passes (gathered no_records (fields_at bytes 0)) (finished bytes) h short.1 in
-    let named = unless_passes (no_name bytes all.0) _ h all.2 in
+    let named = unless_passes (no_name layer.Sheet (length bytes) all.0) _ h all.2 in
     let aimed = unless_passes (aims all.0 (fields_at bytes 0)) _ h named.1 in
     let same : h ≡ all.0 = cc aimed.1 in
-    (same ∙ gathered_built no_records (fields_at bytes 0) all.0 all.1, not_long (length bytes) _ short.0)
+    (same ∙ gathered_built no_records (fields_at bytes 0) all.0 (ownerless (length bytes) bytes 0) all.1, not_long (length bytes) _ short.0)
   where
     not_long : (n : ℕ) (f : Fault) → cond (ltb 60000 n) (Some f) None ≡ None → n ≤ 60000
     not_long n f e = by_test (ltb 60000 n) refl e
@@ -244,7 +253,7 @@ module _ (bytes : List ℕ) (opens : is_ok (opened bytes) ≡ true) where
   kind_answer m =
       nth_chosen (found sought.Modules) (λ (x : Owned). entry_kind x.entry) (λ _. refl) (λ (x : Owned). entry_kind x.entry) (λ _ _. refl) (owned 0 (entries bytes)) m
       ∙ sym (ap (λ l. slice_get l m) (kinds_are bytes opens))
-      ∙ nth_map kind_of (graph_of bytes).modules m
+      ∙ slice_get-map kind_of (graph_of bytes).modules m
 
   pub import_answer : (i : ℕ) → bound (slice_get (sought_from bytes sought.Imports 0 0) i) (λ (x : Owned). entry_import x.owner x.entry) ≡ slice_get (graph_of bytes).imports i
   import_answer i =

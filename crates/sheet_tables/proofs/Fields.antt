@@ -4,9 +4,9 @@ use Rattle.std.proofs.lemmas.Bool.{cond_both}
 use Rattle.graph.specs.declared.fault.Reason.{Reason}
 use Rattle.graph.specs.declared.records.Kind.{Kind}
 use Rattle.graph.specs.Entries.{Entry, a_name, a_module, a_star, an_import, an_export}
-use Rattle.graph.specs.Rules.{name_sized, id_sized, kind_numbered, wanted_number, wanted_numbered}
+use Rattle.graph.specs.Rules.{name_sized, id_sized, kind_numbered, of_kind, wanted_number, wanted_numbered}
 use Rattle.graph.proofs.Numbering.{wanted_again}
-use Rattle.sheet.specs.Fields.{two, next_at, payload_at, field_at, content, of_kind}
+use Rattle.sheet.specs.Fields.{two, next_at, payload_at, field_at, content}
 
 -- the bytes of a record are those of its payload, for a module behind the kind; what an import wants has a number
 abbrev pub Says : List ℕ → Entry → Type 0

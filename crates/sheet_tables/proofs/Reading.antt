@@ -13,6 +13,7 @@ use Rattle.graph.specs.Opening.{latest, or_only_default}
 use Rattle.graph.specs.Soundness.{Sized, Sound}
 use Rattle.graph.proofs.Numbering.{kind_again}
 use Rattle.graph.proofs.Pushing.{Formed}
+use Rattle.graph.proofs.Soundly.{FormedContent}
 use Rattle.sheet.specs.declared.field.Field.{Field}
 use Rattle.sheet.specs.declared.field.Field.TheVariants as field
 use Rattle.sheet.specs.Fields.{two, next_at, payload_at, field_at}
@@ -20,7 +21,7 @@ use Rattle.sheet.specs.Borrowed.{entry_of, Begins}
 use Rattle.sheet.specs.Opening.{entries}
 use Rattle.sheet.specs.Opening as sheets
 use Rattle.sheet.proofs.Remaining.{remaining, remaining_more}
-use Rattle.sheet.proofs.Soundly.{FormedField, formed_at, graph_sound}
+use Rattle.sheet.proofs.Soundly.{formed_at, graph_sound}
 use Rattle.sheet_source.proofs.Answering.{built, sheet_built}
 use Rattle.tables.specs.declared.lists.Span.{Span}
 use Rattle.tables.specs.Spans.{bytes_in}
@@ -55,7 +56,7 @@ module _ (bytes : List ℕ) (p : ℕ) (h : Held) (so : SoFar bytes p h) (inside 
   -- what a field says, by its payload
   module _ (e : Entry) (read : field_at bytes p ≡ Ok e) where
     formed : Formed e
-    formed = subst FormedField read (formed_at bytes p)
+    formed = subst FormedContent read (formed_at bytes p)
 
     says : Says (payload_at bytes p) e
     says = subst (SaysContent (payload_at bytes p)) read (field_says bytes p)

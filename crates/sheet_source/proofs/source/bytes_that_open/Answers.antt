@@ -1,5 +1,5 @@
 use Rattle.std.proofs.Common.{is_ok, sym, refl, ap}
-use Rattle.sheet.specs.Opening.{or_only_default}
+use Rattle.graph.specs.Opening.{or_only_default}
 use Rattle.sheet_source.proofs.source.bytes_that_open.Goals as goal
 
 pub returns-in-Ok : goal.returns-in-Ok
