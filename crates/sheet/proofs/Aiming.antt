@@ -1,5 +1,5 @@
 -- The last checks: module numbers and star targets.
-use Rattle.std.proofs.Common.{◌≡◌, ℕ, cond, leb, List, ◌∷◌, map, Some, None, Ok, Err, sym, refl, ap, ◌∙◌}
+use Rattle.std.proofs.Common.{◌≡◌, ℕ, cond, leb, List, ◌∷◌, map, Some, None, Ok, sym, refl, ap, ◌∙◌}
 use Rattle.std.proofs.lemmas.List.{length-map}
 use Rattle.std.proofs.lemmas.Option.{slice_get-map}
 use Rattle.graph.specs.declared.fault.Layer.TheVariants as layer

@@ -1,5 +1,5 @@
 -- The fields that are left, behind one more.
-use Rattle.std.proofs.Common.{◌≡◌, ℕ, ◌<◌, ◌≤◌, List, [], ◌∷◌, length, Ok, Err, Result, refl, ap, ◌∙◌, arith}
+use Rattle.std.proofs.Common.{◌≡◌, ℕ, ◌<◌, ◌≤◌, cond, List, [], ◌∷◌, length, is_ok, Ok, Err, Result, refl, sym, ap, ◌∙◌, arith}
 use Rattle.graph.specs.declared.fault.Reason.{Reason}
 use Rattle.graph.specs.Entries.{Entry}
 use Rattle.graph.specs.Opening.{Placed}
@@ -27,3 +27,11 @@ module _ (left later : List Placed) (place : ℕ) (content : Result Field Reason
 
   pub begins_err : (r : Reason) → content ≡ Err r → left ≡ field place (Err r) ∷ later
   begins_err r is = steps ∙ ap (λ c. field place (content_of c) ∷ later) is
+
+-- behind a field that cannot be read nothing is left
+pub nothing_behind : (fields : List Placed) (x : Placed) (later : List Placed) (r : Reason) → readable fields ≡ x ∷ later → x.content ≡ Err r → later ≡ []
+nothing_behind [] x later r e is = absurd cc
+nothing_behind (y ∷ ys) x later r e is =
+    let first : y ≡ x = cc in
+    let rest : cond (is_ok y.content) (readable ys) [] ≡ later = cc in
+    sym rest ∙ ap (λ c. cond (is_ok c) (readable ys) []) (ap (λ (z : Placed). z.content) first ∙ is)

@@ -1,10 +1,10 @@
 -- The names at the head of a sheet.
-use Rattle.std.proofs.Common.{◌≡◌, ℕ, ◌+◌, ◌<◌, ◌≤◌, Bool, true, false, not, ◌&&◌, ◌||◌, eqb, List, [], ◌∷◌, ◌++◌, map, length, take, get_or, Some, Ok, Err, Result, Bor, sym, refl, ap, ◌∙◌, subst, append_assoc, ◌≢◌}
+use Rattle.std.proofs.Common.{◌≡◌, ℕ, ◌+◌, ◌<◌, ◌≤◌, Bool, true, false, not, ◌&&◌, ◌||◌, eqb, List, [], ◌∷◌, ◌++◌, map, length, take, Some, Ok, Err, Result, Bor, sym, refl, ap, ◌∙◌, subst, append_assoc, add-one, arith, ◌≢◌, inl, inr}
 use Rattle.std.specs.Str.{bytes_eq}
 use Rattle.std.specs.List.{list_any}
 use Rattle.std.proofs.lemmas.List.{map_push, length_push, length-map}
-use Rattle.std.proofs.lemmas.List.Folds.{list_any_more, list_any_at}
-use Rattle.std.proofs.lemmas.Bool.{cond-true, cond-false, le-leb, lt-leb}
+use Rattle.std.proofs.Math.Seq.{take-nil}
+use Rattle.std.proofs.lemmas.Bool.{cond-true, cond-false, le-leb, lt-leb, cases_lt}
 use Rattle.graph.specs.declared.fault.Reason.{Reason}
 use Rattle.graph.specs.declared.fault.Reason.TheVariants.{BadName, OverLimit}
 use Rattle.graph.specs.Graphs.{no_records, default_name}
@@ -64,19 +64,35 @@ repeated_listed name (x ∷ xs) (n ∷ ns) are =
 pub names_push : (fields : List Placed) (names : List (List ℕ)) (x : Placed) (name : List ℕ) → AreNames fields names → x.content ≡ Ok (a_name name) → AreNames (fields ++ (x ∷ [])) (names ++ (name ∷ []))
 names_push fields names x name are is = map_push (λ (y : Placed). y.content) fields x ∙ ap (λ cs. cs ++ (x.content ∷ [])) are ∙ ap (λ c. map (λ n. Ok (a_name n)) names ++ (c ∷ [])) is ∙ sym (map_push (λ n. Ok (a_name n)) names name)
 
--- the first places hold no field that is the name
-pub repeated_more : (name : List ℕ) (fields : List Placed) (k : ℕ) (x : Placed) → repeated name (take k fields) ≡ false → k < length fields → x ≡ get_or fields k x → same_name name x.content ≡ false → repeated name (take (k + 1) fields) ≡ false
-repeated_more name fields k x before inside here other =
-    list_any_more (λ (y : Placed). same_name name y.content) fields k x inside
-    ∙ ap (λ b. b || same_name name (get_or fields k x).content) before
-    ∙ ap (λ (y : Placed). same_name name y.content) (sym here)
-    ∙ other
+-- going through the first fields, as many as n, in search of the name
+module _ (name : List ℕ) (n : ℕ) (left : List Placed) where
+  module _ (m : ℕ) (x : Placed) (later : List Placed) (step : left ≡ x ∷ later) (fewer : m + 1 ≡ n) where
+    repeated_step : repeated name (take n left) ≡ (same_name name x.content || repeated name (take m later))
+    repeated_step = ap (repeated name) (ap (λ k. take k left) (sym fewer) ∙ ap (take (m + 1)) step ∙ take_first)
+      where
+        take_first : take (m + 1) (x ∷ later) ≡ x ∷ take m later
+        take_first = rw add-one refl
 
-pub repeated_here : (name : List ℕ) (fields : List Placed) (k : ℕ) (x : Placed) → k < length fields → x ≡ get_or fields k x → same_name name x.content ≡ true → repeated name fields ≡ true
-repeated_here name fields k x inside here same = list_any_at (λ (y : Placed). same_name name y.content) fields k x inside (ap (λ (y : Placed). same_name name y.content) (sym here) ∙ same)
+    pub repeated_on : same_name name x.content ≡ false → repeated name (take m later) ≡ repeated name (take n left)
+    repeated_on other = sym (repeated_step ∙ ap (λ b. b || repeated name (take m later)) other)
+
+    pub repeated_here : same_name name x.content ≡ true → repeated name (take n left) ≡ true
+    repeated_here same = repeated_step ∙ ap (λ b. b || repeated name (take m later)) same
+
+  pub repeated_none : (0 < n → left ≡ []) → repeated name (take n left) ≡ false
+  repeated_none done = elim (cases_lt 0 n) [
+    | inl some ↦ ap (λ xs. repeated name (take n xs)) (done some) ∙ ap (repeated name) (take-nil n)
+    | inr none ↦ ap (λ k. repeated name (take k left)) (le_zero none)
+  ]
+    where
+      le_zero : n ≤ 0 → n ≡ 0
+      le_zero h = omega arith
+
+names_length : (fields : List Placed) (names : List (List ℕ)) → AreNames fields names → length fields ≡ length names
+names_length fields names are = simp length-map at (ap length are)
 
 -- no field but a name says a name
-only_name : (f : Field) (name : List ℕ) → ((bytes : Bor (List ℕ)) (offset : ℕ) → f ≡ Name bytes offset → ⊥) → Ok {B = Reason} (entry_of f) ≢ Ok (a_name name)
+only_name : (f : Field) (name : List ℕ) → ((bytes : Bor (List ℕ)) (offset : ℕ) → f ≡ Name bytes offset → ⊥) → entry_of f ≢ a_name name
 only_name (Name bytes offset) name other e = other bytes offset refl
 only_name (Module kind id offset) name other e = absurd cc
 only_name (Star target) name other e = absurd cc
@@ -86,7 +102,7 @@ only_name (Export n symbol) name other e = absurd cc
 module _ {all fields left : List Placed} {count : ℕ} (so : Gone all fields count left) where
   -- the names are the fields at the head
   pub gone_first : take count fields ≡ so.gone
-  gone_first = ap (take count) so.split ∙ ap (λ n. take n (so.gone ++ left)) (sym (sym (length-map so.gone (λ (x : Placed). x.content)) ∙ ap length so.are ∙ length-map so.names (λ name. Ok {B = Reason} (a_name name)) ∙ so.counted)) ∙ take-length-append so.gone left
+  gone_first = ap (take count) so.split ∙ ap (λ n. take n (so.gone ++ left)) (sym (names_length so.gone so.names so.are ∙ so.counted)) ∙ take-length-append so.gone left
 
   pub heads_none : left ≡ [] → Head all count left
   heads_none none = record {
@@ -99,7 +115,7 @@ module _ {all fields left : List Placed} {count : ℕ} (so : Gone all fields cou
       cons_none : (x : Placed) (xs : List Placed) → x ∷ xs ≡ [] → ⊥
       cons_none x xs e = absurd cc
 
-  module _ {place : ℕ} {content : Result Field Reason} {later : List Placed} (steps : left ≡ field place (content_of content) ∷ later) where
+  module _ (place : ℕ) (content : Result Field Reason) (later : List Placed) (steps : left ≡ field place (content_of content) ∷ later) where
     on_here : (c : Result Entry Reason) → content_of content ≡ c → gathered (named so.names) (field place c ∷ later) ≡ gathered no_records all
     on_here c is = sym (ap (gathered (named so.names)) (steps ∙ ap (λ x. field place x ∷ later) is)) ∙ so.on
 
@@ -115,7 +131,7 @@ module _ {all fields left : List Placed} {count : ℕ} (so : Gone all fields cou
       names = so.names;
       counted = so.counted;
       on = so.on;
-      other = λ x rest name first told. only_name f name other (sym (content_first x rest (sym steps ∙ first) ∙ ap content_of is) ∙ told);
+      other = λ x rest name first told. let same : entry_of f ≡ a_name name = cc (content_first x rest (sym steps ∙ first), ap content_of is, told) in only_name f name other same;
     }
       where
         content_first : (x : Placed) (rest : List Placed) → field place (content_of content) ∷ later ≡ x ∷ rest → x.content ≡ content_of content

@@ -1,11 +1,11 @@
 -- Opening needs no field behind the first that cannot be read.
-use Rattle.std.proofs.Common.{◌≡◌, ℕ, cond, List, [], ◌∷◌, is_ok, Some, None, Ok, Err, Result, refl, ap}
+use Rattle.std.proofs.Common.{◌≡◌, ℕ, cond, List, [], ◌∷◌, is_ok, Ok, Err, Result, refl, ap}
 use Rattle.graph.specs.declared.fault.Reason.{Reason}
 use Rattle.graph.specs.declared.fault.Layer.TheVariants as layer
 use Rattle.graph.specs.Graphs.{Graph}
 use Rattle.graph.specs.Entries.{Entry, grown}
 use Rattle.graph.specs.Rules.{aim_refusal, placed, either_fault, unless}
-use Rattle.graph.specs.Opening.{Placed, refusal, content_refusal, with_content, content_aim, owner_behind}
+use Rattle.graph.specs.Opening.{Placed, content_refusal, with_content, content_aim, owner_behind}
 use Rattle.sheet.specs.Opening.{entry_then, entries_of, gathered, aims}
 use Rattle.sheet.specs.Reading.{readable}
 

@@ -7,7 +7,7 @@ use Rattle.graph.specs.Graphs.{Graph}
 use Rattle.graph.specs.Entries.{Entry, grown}
 use Rattle.graph.specs.Rules.{placed, unless}
 use Rattle.graph.specs.Opening.{Placed, latest, with_content}
-use Rattle.sheet.specs.Fields.{next_at, field_at, fault_at}
+use Rattle.sheet.specs.Fields.{next_at, fault_at}
 use Rattle.sheet.specs.Opening.{placed_at, fields_from, fields_at, entry_refusal, field_refusal, gathered}
 
 fields_none : (steps : ℕ) (bytes : List ℕ) (p : ℕ) → length bytes ≤ p → fields_from steps bytes p ≡ []

@@ -3,4 +3,5 @@ pub mod Borrowed
 pub mod Opening
 pub mod Foremost
 pub mod Reading
+pub mod Owning
 pub mod Progressing

@@ -1,6 +1,5 @@
 -- Going through the fields of a sheet.
-use Rattle.std.specs.Prelude.{◌≡◌, Bool, false, cond, List, [], ◌∷◌, is_ok, None, Ok, Err, Result}
-use Rattle.graph.specs.Entries.{Entry}
+use Rattle.std.specs.Prelude.{cond, List, [], ◌∷◌, is_ok, None}
 use Rattle.graph.specs.Opening.{Placed}
 use Rattle.sheet.specs.declared.fields.FieldAt.{FieldAt}
 use Rattle.sheet.specs.declared.fields.Fields.{Fields}

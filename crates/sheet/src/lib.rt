@@ -6,5 +6,6 @@ pub mod field;
 pub mod fields;
 mod names;
 mod progress;
+pub mod records;
 
 pub use checks::{MOST_BYTES, open};

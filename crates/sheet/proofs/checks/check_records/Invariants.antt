@@ -1,4 +1,4 @@
-use Rattle.std.proofs.Common.{List, length}
+use Rattle.std.proofs.Common.{List}
 use Rattle.graph.specs.Graphs.{Graph}
 use Rattle.graph.specs.Opening.{Placed}
 use Rattle.sheet.specs.Progressing.{Head, Standing}

@@ -22,10 +22,14 @@ returns-in-Some-aim_refusal c = λ g are.
     ∙ ap (λ f. Some f) (sym c.sheet_fault.ensures)
 
 pub loop-next-preserved : goal.loop-next-preserved
-loop-next-preserved c = (tt, tt, λ g are.
-    aims_on g c.in-Some.next.place _ (fields_left c.next.new.self) c.args.kinds.now are (sym c.aim_refusal.ensures ∙ c.in_default-aim_refusal.is)
-    ∙ sym (ap (aims g) (begins_ok (fields_left c.loop-next.next-iterator) (fields_left c.next.new.self) c.in-Some.next.place c.in-Some.next.content c.in-Some.ensures.steps c.in-Ok.field c.in-Ok.is))
-    ∙ c.loop-next.invariant.2 g are)
+loop-next-preserved c = (
+  tt,
+  tt,
+  λ g are.
+      aims_on g c.in-Some.next.place _ (fields_left c.next.new.self) c.args.kinds.now are (sym c.aim_refusal.ensures ∙ c.in_default-aim_refusal.is)
+      ∙ sym (ap (aims g) (begins_ok (fields_left c.loop-next.next-iterator) (fields_left c.next.new.self) c.in-Some.next.place c.in-Some.next.content c.in-Some.ensures.steps c.in-Ok.field c.in-Ok.is))
+      ∙ c.loop-next.invariant.2 g are,
+)
 
 pub returns : goal.returns
 returns c = λ g are. sym (c.loop-next.invariant.2 g are) ∙ ap (aims g) c.in-None.ensures.steps.0

@@ -1,4 +1,4 @@
-use Rattle.std.proofs.Common.{◌≡◌, false, length, take, None}
+use Rattle.std.proofs.Common.{◌≡◌, take, None}
 use Rattle.sheet.specs.Opening.{fields_at}
 use Rattle.sheet.specs.Reading.{fields_left}
 use Rattle.sheet.proofs.Naming.{Gone, repeated}
@@ -11,5 +11,5 @@ abbrev pub invariant-loop-earlier : goal.invariant-loop-earlier
 invariant-loop-earlier l =
     (goal.iterator-loop-earlier).can_next l.earlier-iterator
     × (goal.iterator-loop-earlier).is_finite l.earlier-iterator
-    × (repeated l.name (take (length l.yielded) (take l.count (fields_left l.all))) ≡ false)
+    × (repeated l.name (take l.earlier-iterator.n (fields_left l.earlier-iterator.iter)) ≡ repeated l.name (take l.count (fields_left l.all)))
     × (l.repeated ≡ None)

@@ -1,4 +1,4 @@
-use Rattle.std.proofs.Common.{rules, sym, ap, ◌∙◌}
+use Rattle.std.proofs.Common.{rules}
 use Rattle.sheet.proofs.Going.{readable_more, readable_last}
 use Rattle.sheet.proofs.fields.FieldsIterator.next.Goals as goal
 

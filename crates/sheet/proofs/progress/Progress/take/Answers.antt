@@ -1,6 +1,6 @@
 use Rattle.std.proofs.Common.{Ok, Err, ◌∷◌, sym, refl, ap, ◌∙◌, subst}
 use Rattle.graph.specs.Entries.{grown}
-use Rattle.graph.specs.Opening.{Placed, latest}
+use Rattle.graph.specs.Opening.{latest}
 use Rattle.sheet.specs.Borrowed.{content_of, entry_of}
 use Rattle.sheet.specs.Opening.{field_refusal}
 use Rattle.sheet.specs.Progressing.{Standing}

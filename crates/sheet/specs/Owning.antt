@@ -1,0 +1,33 @@
+-- The records of a sheet, each with its owner.
+use Rattle.std.specs.Prelude.{ℕ, ◌+◌, ◌-◌, List, [], ◌∷◌, min}
+use Rattle.graph.specs.Entries.{Entry, a_name, a_module, a_star, an_import, an_export}
+use Rattle.sheet.specs.declared.records.Record.{Record}
+use Rattle.sheet.specs.declared.records.Records.{Records}
+use Rattle.sheet.specs.Borrowed.{entry_of}
+use Rattle.sheet.specs.Opening.{entries_of}
+use Rattle.sheet.specs.Reading.{fields_left}
+
+-- a record, and the number of the module that owns it
+pub record Owned : Type 0 where
+  pub owner : ℕ
+  pub entry : Entry
+
+-- the number of modules behind a record, counted up to 65535
+abbrev pub modules_after : ℕ → Entry → ℕ
+modules_after modules (a_name bytes) = modules
+modules_after modules (a_module kind id) = min (modules + 1) 65535
+modules_after modules (a_star target) = modules
+modules_after modules (an_import symbol target wanted) = modules
+modules_after modules (an_export name symbol) = modules
+
+-- records behind so many modules, each with its owner: the latest module, or 0 before the first
+abbrev pub owned : ℕ → List Entry → List Owned
+owned modules [] = []
+owned modules (e ∷ es) = record { owner = modules - 1; entry = e } ∷ owned (modules_after modules e) es
+
+abbrev pub owned_of : Record → Owned
+owned_of r = record { owner = r.owner; entry = entry_of r.field }
+
+-- what is left to be gone through
+abbrev pub records_left : Records → List Owned
+records_left s = owned s.modules (entries_of (fields_left s.fields))

@@ -1,0 +1,60 @@
+ghost use Rattle.std.specs.Prelude.{◌≡◌};
+ghost use Rattle.std.specs.Iterator.{YieldsFirstBy, item_count};
+ghost use Rattle.sheet.specs.Borrowed.{entry_of};
+ghost use Rattle.sheet.specs.Opening.{entries};
+ghost use Rattle.sheet.specs.Owning.{modules_after, owned, owned_of, records_left};
+
+use super::field::Field;
+use super::fields::Fields;
+
+// A record of a sheet, and the module that owns it: the latest one before it.
+#[derive(Clone, Copy)]
+pub struct Record<'a> {
+    pub owner: u16,
+    pub field: Field<'a>,
+}
+
+// The records of a sheet in their order, up to the first field that cannot be read.
+#[derive(Clone, Copy)]
+pub struct Records<'a> {
+    pub fields: Fields<'a>,
+    // how many modules came so far
+    pub modules: u16,
+}
+
+// The number of modules behind a field.
+fn modules_after(modules: u16, field: Field) -> u16
+    ensures { result ≡ modules_after modules (entry_of field.entry) }
+{
+    match field {
+        Field::Module { .. } => modules.saturating_add(1),
+        _ => modules,
+    }
+}
+
+impl<'a> Records<'a> {
+    // All records of a sheet.
+    pub fn of(bytes: &'a [u8]) -> Self
+        ensures { records_left result ≡ owned 0 (entries bytes.now) }
+    {
+        Records {
+            fields: Fields::of(bytes),
+            modules: 0,
+        }
+    }
+}
+
+impl<'a> Iterator for Records<'a> {
+    type Item = Record<'a>;
+
+    ghost next_gives = { YieldsFirstBy owned_of records_left };
+
+    ghost remaining = { item_count records_left };
+
+    fn next(&mut self) -> Option<Record<'a>> {
+        let field = self.fields.next()?.content.ok()?;
+        let owner = self.modules.saturating_sub(1);
+        self.modules = modules_after(self.modules, field);
+        Some(Record { owner, field })
+    }
+}
