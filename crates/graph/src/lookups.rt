@@ -84,8 +84,6 @@ pub fn nth_of<T: Owned>(records: &[T], m: usize, k: usize) -> Option<T>
 pub fn find_of<T: Owned + Keyed>(records: &[T], m: usize, key: usize) -> Option<T>
     ensures { Rising T.belongs records.now → result ≡ first_keyed T.belongs T.keyed records.now m key }
 {
-    records_of(records, m)
-        .iter()
-        .find(|r| usize::from(r.key()) == key)
-        .copied()
+    let run = records_of(records, m);
+    run.iter().find(|r| usize::from(r.key()) == key).copied()
 }
