@@ -76,7 +76,3 @@ module _ {X : Type 0} (owner : X → ℕ) where
       by_owner : (b : Bool) → find (λ y. eqb (key y) k) (cond b (x ∷ owned_by owner xs m) (owned_by owner xs m)) ≡ cond (b && eqb (key x) k) (Some x) (find (λ y. eqb (key y) k) (owned_by owner xs m))
       by_owner true = refl
       by_owner false = refl
-
-pub all_any : {X : Type 0} (P : X → Type 0) → ((x : X) → P x) → (xs : List X) → AllByRecursion P xs
-all_any P each [] = tt
-all_any P each (x ∷ xs) = (each x, all_any P each xs)

@@ -23,7 +23,7 @@ impl Wanted {
 pub fn is_es(kind: Option<Kind>) -> bool
     ensures { result ≡ is_es kind }
 {
-    kind == Some(Kind::Es)
+    matches!(kind, Some(Kind::Es))
 }
 
 // Why a star record, an import or an export is refused, where there are `count` of its sort.
