@@ -1,8 +1,9 @@
 -- Look-ups for the first element that passes a test.
-use Rattle.std.proofs.Common.{◌≡◌, ℕ, ◌<◌, Bool, true, false, cond, ◌&&◌, ◌||◌, eqb, List, [], ◌∷◌, ◌++◌, is_some, Some, None, Option, sym, refl, ap, ◌∙◌, arith}
+use Rattle.std.proofs.Common.{◌≡◌, ℕ, ◌<◌, Bool, true, false, cond, ◌&&◌, ◌||◌, eqb, List, [], ◌∷◌, ◌++◌, is_some, Some, None, Option, refl, ap, ◌∙◌, arith}
 use Rattle.std.specs.List.{AllByRecursion}
 use Rattle.std.proofs.ByRecursion.{All-weaker}
 use Rattle.std.proofs.lemmas.Bool.{and_left, ne_eqb, eq-eqb}
+use Rattle.std.proofs.lemmas.List.Recursion.{or_push}
 use Rattle.graph.specs.declared.records.Export.{Export}
 use Rattle.graph.specs.declared.records.Import.{Import}
 use Rattle.graph.specs.Lookups.{symbol_in, import_in}
@@ -11,25 +12,10 @@ some_told : {Y : Type 0} (b : Bool) (y : Y) (o : Option Y) → is_some (cond b (
 some_told true y o = refl
 some_told false y o = refl
 
-pub or_last : (b : Bool) → (b || false) ≡ b
-or_last true = refl
-or_last false = refl
-
-pub or_assoc : (a b c : Bool) → (a || (b || c)) ≡ ((a || b) || c)
-or_assoc true b c = refl
-or_assoc false b c = refl
-
 module _ {X Y : Type 0} (F : List X → Option Y) (test : X → Bool) (f : X → Y) (none : F [] ≡ None) (step : (x : X) (xs : List X) → F (x ∷ xs) ≡ cond (test x) (Some (f x)) (F xs)) where
   -- one element more at the end
   pub found_push : (xs : List X) (x : X) → is_some (F (xs ++ (x ∷ []))) ≡ (is_some (F xs) || test x)
-  found_push [] x = ap is_some (step x []) ∙ some_told (test x) (f x) (F []) ∙ ap (λ o. test x || is_some o) none ∙ or_last (test x) ∙ sym (ap (λ o. is_some o || test x) none)
-  found_push (y ∷ ys) x =
-      ap is_some (step y (ys ++ (x ∷ [])))
-      ∙ some_told (test y) (f y) (F (ys ++ (x ∷ [])))
-      ∙ ap (λ b. test y || b) (found_push ys x)
-      ∙ or_assoc (test y) (is_some (F ys)) (test x)
-      ∙ sym (ap (λ b. b || test x) (some_told (test y) (f y) (F ys)))
-      ∙ sym (ap (λ o. is_some o || test x) (step y ys))
+  found_push = or_push (λ l. is_some (F l)) test (ap is_some none) (λ x xs. ap is_some (step x xs) ∙ some_told (test x) (f x) (F xs))
 
   pub found_none : (xs : List X) → AllByRecursion (λ x. test x ≡ false) xs → F xs ≡ None
   found_none [] all = none

@@ -1,6 +1,7 @@
 -- What opening refuses is the first fault.
-use Rattle.std.proofs.Common.{◌≡◌, ℕ, Bool, true, false, cond, eqb, ◌⊎◌, List, [], ◌∷◌, ◌++◌, length, Some, None, Ok, Err, Option, Result, sym, refl, ap, ◌∙◌, subst, inl, inr, ⊎_elim, arith, lit<, MatchResult}
+use Rattle.std.proofs.Common.{◌≡◌, ℕ, true, false, eqb, ◌⊎◌, List, [], ◌∷◌, ◌++◌, length, Some, None, Ok, Err, Option, Result, sym, refl, ap, ◌∙◌, subst, inl, inr, ⊎_elim, arith, lit<, MatchResult}
 use Rattle.std.specs.List.{AllByRecursion}
+use Rattle.std.proofs.lemmas.Option.{cond_some}
 use Rattle.std.proofs.lemmas.Result.{MatchResult-weaker}
 use Rattle.std.proofs.lemmas.Bool.{true≢false, cond-true, cond-false, eqb-true, eqb-false, eq-eqb, ne_eqb}
 use Rattle.graph.specs.declared.fault.Fault.{Fault}
@@ -32,10 +33,6 @@ unless_err None r f e = inr (refl, e)
 then_err : {A B : Type 0} (r : Result A Fault) (next : A → Result B Fault) (f : Fault) → and_then r next ≡ Err f → (r ≡ Err f) ⊎ ((x : A) × (r ≡ Ok x) × (next x ≡ Err f))
 then_err (Ok x) next f e = inr (x, refl, e)
 then_err (Err y) next f e = let same : y ≡ f = cc in inl (ap Err same)
-
-pub cond_some : {A : Type 0} (b : Bool) (x y : A) → cond b (Some x) None ≡ Some y → (b ≡ true) × (x ≡ y)
-cond_some true x y e = (refl, cc)
-cond_some false x y e = absurd (true≢false (cc e))
 
 placed_some : (layer : Layer) (o : Option Reason) (place : ℕ) (f : Fault) → placed layer o place ≡ Some f → (r : Reason) × (o ≡ Some r) × (fault_in layer r place ≡ f)
 placed_some layer None place f e = absurd (true≢false (cc e))

@@ -1,3 +1,4 @@
+pub mod Bytes
 pub mod Finding
 pub mod Keyed
 pub mod Numbering

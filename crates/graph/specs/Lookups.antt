@@ -39,11 +39,6 @@ import_in (i ∷ is) m s = cond (i.owner == m && i.symbol == s) (Some i) (import
 abbrev pub owned_by : {X : Type 0} → (X → ℕ) → List X → ℕ → List X
 owned_by owner xs m = filter (λ x. nat_eq (owner x) m) xs
 
--- the first element with this key
-abbrev pub first_with : {X : Type 0} → (X → ℕ) → List X → ℕ → Option X
-first_with key [] k = None
-first_with key (x ∷ xs) k = cond (key x == k) (Some x) (first_with key xs k)
-
 -- the first element that belongs to m and has this key
 abbrev pub first_keyed : {X : Type 0} → (X → ℕ) → (X → ℕ) → List X → ℕ → ℕ → Option X
 first_keyed owner key [] m k = None

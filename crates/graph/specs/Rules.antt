@@ -1,10 +1,11 @@
 -- The rules behind the refusals that sheets and tables share: each number's case is a test over the graph so far,
 -- the record's owner and the record.
-use Rattle.std.specs.Prelude.{ℕ, ◌≤◌, Bool, true, false, cond, not, ◌&&◌, ◌||◌, List, [], ◌∷◌, length, is_some, Some, None, Ok, Err, Option, Result, ◌==◌, nat_le}
+use Rattle.std.specs.Prelude.{◌≡◌, ℕ, ◌≤◌, Bool, true, false, cond, not, ◌&&◌, ◌||◌, List, [], ◌∷◌, ◌++◌, length, is_some, Some, None, Ok, Err, Option, Result, MatchResult, ◌==◌, nat_le, codes, decimal}
 use mathlib.Core.List.{Memᴰ}
 use Rattle.std.specs.Str.{bytes_eq}
 use Rattle.graph.specs.declared.records.Kind.{Kind}
 use Rattle.graph.specs.declared.records.Kind.TheVariants as kind
+use Rattle.graph.specs.declared.records.UnknownKind.{UnknownKind}
 use Rattle.graph.specs.declared.records.Wanted.{Wanted}
 use Rattle.graph.specs.declared.records.Wanted.TheVariants.{Name, Whole}
 use Rattle.graph.specs.declared.fault.Fault.{Fault}
@@ -40,6 +41,14 @@ id_sized bytes = sized 1 64 bytes
 -- the kind with this number
 abbrev pub kind_numbered : ℕ → Option Kind
 kind_numbered n = cond (n == 0) (Some kind.Es) (cond (n == 1) (Some kind.External) (cond (n == 2) (Some kind.Empty) None))
+
+-- the answer is the kind with this number, or an error with the number where no kind has it
+abbrev pub KindNumbered : ℕ → Result Kind UnknownKind → Type 0
+KindNumbered n r = MatchResult r (λ k. kind_numbered n ≡ Some k) (λ e. (kind_numbered n ≡ None) × (e.0 ≡ n))
+
+-- the bytes of a number that no kind has, as they are printed
+abbrev pub unknown_kind_text : UnknownKind → List ℕ
+unknown_kind_text e = codes "no kind has number " ++ decimal e.0
 
 -- what an import with this name number wants
 abbrev pub wanted_numbered : ℕ → Wanted

@@ -1,5 +1,6 @@
 ghost use Rattle.std.specs.Prelude.{◌≡◌, Some};
 ghost use Rattle.graph.specs.Faults.{reason_number, layer_name, fault_text};
+ghost use Rattle.graph.specs.Opening.{fault_in};
 
 use std::fmt;
 
@@ -24,12 +25,12 @@ pub enum Reason {
     WrongKind,
 }
 
-impl Reason {
-    // The number by which a refusal is known.
-    pub fn number(self) -> u8
-        ensures { result ≡ reason_number self }
-    {
-        match self {
+// The number by which a refusal is known.
+impl From<Reason> for u8 {
+    ghost from_gives = { λ reason n. n ≡ reason_number reason };
+
+    fn from(reason: Reason) -> u8 {
+        match reason {
             Reason::BadLength => 10,
             Reason::Malformed => 11,
             Reason::OutOfOrder => 12,
@@ -52,15 +53,29 @@ pub enum Layer {
 }
 
 impl Layer {
-    pub fn name(self) -> &'static str
-        ensures { result.now ≡ layer_name self }
+    // A fault that this layer found.
+    pub fn fault(self, reason: Reason, place: usize) -> Fault
+        ensures { result ≡ fault_in self reason place }
     {
-        match self {
+        Fault {
+            reason,
+            place,
+            layer: self,
+        }
+    }
+}
+
+// The layer's name.
+impl fmt::Display for Layer {
+    ghost output = { λ layer. Some (layer_name layer) };
+
+    fn fmt<W: fmt::Write>(&self, f: &mut fmt::Formatter<W>) -> fmt::Result {
+        f.write_str(match self {
             Layer::Sheet => "sheet",
             Layer::Tables => "tables",
             Layer::Link => "link",
             Layer::Listing => "listing",
-        }
+        })
     }
 }
 
@@ -77,9 +92,9 @@ impl fmt::Display for Fault {
     ghost output = { λ f. Some (fault_text f) };
 
     fn fmt<W: fmt::Write>(&self, f: &mut fmt::Formatter<W>) -> fmt::Result {
-        let number = self.reason.number();
+        let number = u8::from(self.reason);
         let place = self.place;
-        let layer = self.layer.name();
+        let layer = self.layer;
         write!(f, "refused {number} at {place} in {layer}")
     }
 }

@@ -1,3 +1,9 @@
+ghost use Rattle.std.specs.Prelude.{◌≡◌, Some};
+ghost use Rattle.graph.specs.Rules.{KindNumbered, kind_number, unknown_kind_text, wanted_numbered, wanted_number};
+
+use std::error::Error;
+use std::fmt;
+
 // What a module is.
 #[derive(Clone, Copy, PartialEq, Eq, Debug, Default)]
 pub enum Kind {
@@ -5,6 +11,50 @@ pub enum Kind {
     Es,
     External,
     Empty,
+}
+
+// A number that no kind has.
+#[derive(Clone, Copy, PartialEq, Eq, Debug)]
+pub struct UnknownKind(pub u8);
+
+impl fmt::Display for UnknownKind {
+    ghost output = { λ e. Some (unknown_kind_text e) };
+
+    fn fmt<W: fmt::Write>(&self, f: &mut fmt::Formatter<W>) -> fmt::Result {
+        let number = self.0;
+        write!(f, "no kind has number {number}")
+    }
+}
+
+impl Error for UnknownKind {}
+
+// The kind that is written by a number.
+impl TryFrom<u8> for Kind {
+    type Error = UnknownKind;
+
+    ghost try_from_gives = { KindNumbered };
+
+    fn try_from(number: u8) -> Result<Kind, UnknownKind> {
+        match number {
+            0 => Ok(Kind::Es),
+            1 => Ok(Kind::External),
+            2 => Ok(Kind::Empty),
+            _ => Err(UnknownKind(number)),
+        }
+    }
+}
+
+// The number by which a kind is written.
+impl From<Kind> for u8 {
+    ghost from_gives = { λ kind n. n ≡ kind_number kind };
+
+    fn from(kind: Kind) -> u8 {
+        match kind {
+            Kind::Es => 0,
+            Kind::External => 1,
+            Kind::Empty => 2,
+        }
+    }
 }
 
 // `export * from target`, written in module `owner`.
@@ -19,6 +69,34 @@ pub struct Star {
 pub enum Wanted {
     Name(u16),
     Whole,
+}
+
+// The name number of an import that stands for the whole namespace.
+const WHOLE_NAMESPACE: u16 = 65535;
+
+// What an import with a name number wants.
+impl From<u16> for Wanted {
+    ghost from_gives = { λ n wanted. wanted ≡ wanted_numbered n };
+
+    fn from(number: u16) -> Wanted {
+        if number == WHOLE_NAMESPACE {
+            Wanted::Whole
+        } else {
+            Wanted::Name(number)
+        }
+    }
+}
+
+// The name number of an import that wants something.
+impl From<Wanted> for u16 {
+    ghost from_gives = { λ wanted n. n ≡ wanted_number wanted };
+
+    fn from(wanted: Wanted) -> u16 {
+        match wanted {
+            Wanted::Name(number) => number,
+            Wanted::Whole => WHOLE_NAMESPACE,
+        }
+    }
 }
 
 // An import of module `owner`, bound there to `symbol`.

@@ -1,4 +1,3 @@
-pub mod Fronts
 pub mod Held
 pub mod Apart
 pub mod Adding

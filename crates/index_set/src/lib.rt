@@ -1,51 +1,14 @@
 #![tactic(auto)]
 
-ghost use Rattle.std.specs.Prelude.{◌≡◌, ◌≤◌, Bool, true, [], length, ◌≢◌, nat_eq};
+ghost use Rattle.std.specs.Prelude.{◌≡◌, ◌≤◌, true, [], length, ◌≢◌};
 ghost use Rattle.index_set.specs.Adding.{Adds, Puts, written};
-ghost use Rattle.index_set.specs.Elements.{elements};
 ghost use Rattle.index_set.specs.Sameness.{Distinct, FirstSame, OnlyPlace, held};
-ghost use Rattle.std.proofs.Common.{rules};
-
-// Elements of which two can be the same, by a relation that is an equivalence.
-pub trait Same {
-    ghost same: { Self → Self → Bool };
-
-    // Whether the two are the same.
-    fn same_as(&self, other: &Self) -> bool
-        ensures { result ≡ same self.now other.now };
-
-    ghost reflexive: { (a : Self) → same a a ≡ true };
-
-    ghost symmetric: { (a b : Self) → same a b ≡ same b a };
-
-    ghost transitive: { (a b c : Self) → same a b ≡ true → same b c ≡ true → same a c ≡ true };
-}
-
-// Numbers are the same where they are equal.
-impl Same for u16 {
-    ghost same = { nat_eq };
-
-    ghost reflexive = { Prim.search rules };
-
-    ghost symmetric = { Prim.search rules };
-
-    ghost transitive = { Prim.search rules };
-
-    fn same_as(&self, other: &u16) -> bool {
-        *self == *other
-    }
-}
 
 // The first place whose element is the same as `x`.
-pub fn find<T: Same>(xs: &[T], x: &T) -> Option<usize>
-    ensures { FirstSame T.same xs.now x.now result }
+pub fn find<T: Eq>(xs: &[T], x: &T) -> Option<usize>
+    ensures { FirstSame T.eq xs.now x.now result }
 {
-    for (i, y) in xs.iter().enumerate() {
-        if y.same_as(x) {
-            return Some(i);
-        }
-    }
-    None
+    xs.iter().position(|y| y == x)
 }
 
 // What came of adding an element.
@@ -64,16 +27,19 @@ pub enum Added {
 pub struct IndexSet<'a, T> {
     places: &'a mut [T],
     len: usize,
+    ghost fits: { len ≤ length places.now },
 }
 
 // `lender` says that a set holds on to the places it was lent, so what it writes is the lender's afterwards.
-impl<'a, T: Same + Copy> IndexSet<'a, T> {
+impl<'a, T: Eq + Copy> IndexSet<'a, T> {
+    ghost use Rattle.index_set.specs.Elements.{elements};
+
     // The empty set over these places.
     pub fn new(places: &'a mut [T]) -> Self
         ensures elements { elements result ≡ [] }
         ensures places { result.places.now ≡ places.old }
         ensures lender { result.places.ghost_name ≡ places.entry.ghost_name }
-        ensures distinct { Distinct T.same (elements result) }
+        ensures distinct { Distinct T.eq (elements result) }
     {
         IndexSet { places, len: 0 }
     }
@@ -82,50 +48,48 @@ impl<'a, T: Same + Copy> IndexSet<'a, T> {
     pub fn len(&self) -> usize
         ensures { result ≡ length (elements self.now) }
     {
-        self.len.min(self.places.len())
+        self.len
     }
 
     // The elements, in the order in which they came.
     pub fn elements(&self) -> &[T]
         ensures { result.now ≡ elements self.now }
     {
-        let used = self.len();
-        &self.places[0..used]
+        &self.places[..self.len]
     }
 
     // The first place whose element is the same as `x`: the only one, where the elements are distinct.
     pub fn place_of(&self, x: &T) -> Option<usize>
-        ensures first { FirstSame T.same (elements self.now) x.now result }
-        ensures only { Distinct T.same (elements self.now) → OnlyPlace T.same (elements self.now) x.now result }
+        ensures first { FirstSame T.eq (elements self.now) x.now result }
+        ensures only { Distinct T.eq (elements self.now) → OnlyPlace T.eq (elements self.now) x.now result }
     {
         find(self.elements(), x)
     }
 
     // Adds `x` behind the elements, unless one is the same or every place is taken: then nothing changes.
     pub fn add(&mut self, x: T) -> Added
-        ensures adds { Adds T.same (length self.old.places.now) (elements self.old) x result (elements self.new) }
+        ensures adds { Adds T.eq (length self.old.places.now) (elements self.old) x result (elements self.new) }
         ensures places { self.new.places.now ≡ written self.old.places.now x result }
         ensures lender { self.new.places.ghost_name ≡ self.old.places.ghost_name }
         ensures room { length self.new.places.now ≡ length self.old.places.now }
-        ensures holds { (result ≢ Added.Full) → held T.same x (elements self.new) ≡ true }
-        ensures distinct { Distinct T.same (elements self.old) → Distinct T.same (elements self.new) }
+        ensures holds { (result ≢ Added.Full) → held T.eq x (elements self.new) ≡ true }
+        ensures distinct { Distinct T.eq (elements self.old) → Distinct T.eq (elements self.new) }
     {
-        let used = self.len();
-        let added = put(self.places, used, x);
+        let added = put(self.places, self.len, x);
         if let Added::New(_) = added {
-            self.len = used + 1;
+            self.len += 1;
         }
         added
     }
 }
 
 // Writes `x` behind the first `used` places, unless one of them holds the same or every place is taken: then nothing changes.
-fn put<T: Same + Copy>(places: &mut [T], used: usize, x: T) -> Added
+fn put<T: Eq + Copy>(places: &mut [T], used: usize, x: T) -> Added
     requires { used ≤ length places.old }
-    ensures answer { Puts T.same places.old used x result }
+    ensures answer { Puts T.eq places.old used x result }
     ensures places { places.new ≡ written places.old x result }
 {
-    if let Some(i) = find(&places[0..used], &x) {
+    if let Some(i) = find(&places[..used], &x) {
         return Added::Present(i);
     }
     if used >= places.len() {
