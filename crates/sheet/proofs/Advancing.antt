@@ -15,7 +15,8 @@ use Rattle.graph.specs.Entries.{Entry, a_name, a_module, a_star, an_import, an_e
 use Rattle.graph.specs.Lookups.{kind_of, symbol_in, import_in}
 use Rattle.graph.specs.Opening.{Placed, latest}
 use Rattle.graph.specs.Rules.{given_twice, owned_refusal, wants_unknown}
-use Rattle.graph.proofs.Finding.{or_last, symbol_push, import_push, symbol_none, import_none}
+use Rattle.std.proofs.Math.Bool.{or-false}
+use Rattle.graph.proofs.Finding.{symbol_push, import_push, symbol_none, import_none}
 use Rattle.sheet.specs.declared.fields.Fields.{Fields}
 use Rattle.sheet.specs.declared.progress.Progress.{Progress}
 use Rattle.sheet.specs.Fields.{fault_at}
@@ -25,7 +26,7 @@ use Rattle.sheet.specs.Progressing.{Head, named, Standing, Counts, Advanced, cla
 use Rattle.sheet.proofs.Stepping.{field, gathered_on, gathered_stop}
 
 clashes_push : (e : Entry) (fields : List Placed) (place : ℕ) (x : Entry) → clashes e (fields ++ (field place (Ok x) ∷ [])) ≡ (clashes e fields || clash e x)
-clashes_push e fields place x = list_any-append (λ (y : Placed). clash_content e y.content) fields (field place (Ok x) ∷ []) ∙ ap (λ b. clashes e fields || b) (or_last (clash e x))
+clashes_push e fields place x = list_any-append (λ (y : Placed). clash_content e y.content) fields (field place (Ok x) ∷ []) ∙ ap (λ b. clashes e fields || b) (or-false (clash e x))
 
 -- no module has a record of a graph in which all owners stand before it
 nothing_twice : (g : Graph) (m : ℕ) → AllByRecursion (λ (i : Import). i.owner < m) g.imports → AllByRecursion (λ (e : Export). e.owner < m) g.exports → (e : Entry) → false ≡ given_twice g m e
@@ -39,21 +40,21 @@ star_twice : (g : Graph) (m target : ℕ) (e : Entry) → given_twice (grown g m
 star_twice g m target (a_name bytes) = refl
 star_twice g m target (a_module k id) = refl
 star_twice g m target (a_star t) = refl
-star_twice g m target (an_import symbol t wanted) = sym (or_last (is_some (import_in g.imports m symbol)))
-star_twice g m target (an_export name symbol) = sym (or_last (is_some (symbol_in g.exports m name)))
+star_twice g m target (an_import symbol t wanted) = sym (or-false (is_some (import_in g.imports m symbol)))
+star_twice g m target (an_export name symbol) = sym (or-false (is_some (symbol_in g.exports m name)))
 
 import_twice : (g : Graph) (m s t : ℕ) (w : Wanted) (e : Entry) → given_twice (grown g m (an_import s t w)) m e ≡ (given_twice g m e || clash e (an_import s t w))
 import_twice g m s t w (a_name bytes) = refl
 import_twice g m s t w (a_module k id) = refl
 import_twice g m s t w (a_star target) = refl
 import_twice g m s t w (an_import symbol target wanted) = import_push g.imports m symbol (record { owner = m; symbol = s; target = t; wanted = w }) refl
-import_twice g m s t w (an_export name symbol) = sym (or_last (is_some (symbol_in g.exports m name)))
+import_twice g m s t w (an_export name symbol) = sym (or-false (is_some (symbol_in g.exports m name)))
 
 export_twice : (g : Graph) (m n s : ℕ) (e : Entry) → given_twice (grown g m (an_export n s)) m e ≡ (given_twice g m e || clash e (an_export n s))
 export_twice g m n s (a_name bytes) = refl
 export_twice g m n s (a_module k id) = refl
 export_twice g m n s (a_star target) = refl
-export_twice g m n s (an_import symbol target wanted) = sym (or_last (is_some (import_in g.imports m symbol)))
+export_twice g m n s (an_import symbol target wanted) = sym (or-false (is_some (import_in g.imports m symbol)))
 export_twice g m n s (an_export name symbol) = symbol_push g.exports m name n s
 
 module _ (all : List Placed) (s t : Progress) (place : ℕ) (e : Entry) (behind : Fields) (g : Graph) (standing : Standing all s (field place (Ok e) ∷ fields_left behind) g) (none : entry_refusal g e ≡ None) where

@@ -7,7 +7,8 @@ use Rattle.graph.specs.Graphs.{Graph}
 use Rattle.graph.specs.Rules.{unless}
 use Rattle.graph.specs.Opening as opening
 use Rattle.graph.proofs.Pushing.{cond_none}
-use Rattle.graph.proofs.Firstly.{unless_err, cond_some}
+use Rattle.graph.proofs.Firstly.{unless_err}
+use Rattle.std.proofs.lemmas.Option.{cond_some}
 use Rattle.graph.proofs.Firstly as records
 use Rattle.sheet.specs.Opening.{fields_at, too_long, opened}
 use Rattle.sheet.specs.Foremost.{FirstFault, overlong, of_fields}

@@ -15,8 +15,8 @@ field_there bytes p size e h =
     ∙ cond-false _ _ _ (le-ltb (length bytes) (next_at bytes p) (omega arith))
     ∙ ap (λ n. content (get_or bytes p 0) (take n (drop (p + 3) bytes))) same
 
-pub module_there : (payload : List ℕ) (k : Kind) → Some k ≡ kind_numbered (get_or payload 0 0) → 1 ≤ length (take (length payload - 1) (drop 1 payload)) → length (take (length payload - 1) (drop 1 payload)) ≤ 64 → Ok (a_module k (take (length payload - 1) (drop 1 payload))) ≡ as_module payload
+pub module_there : (payload : List ℕ) (k : Kind) → kind_numbered (get_or payload 0 0) ≡ Some k → 1 ≤ length (take (length payload - 1) (drop 1 payload)) → length (take (length payload - 1) (drop 1 payload)) ≤ 64 → Ok (a_module k (take (length payload - 1) (drop 1 payload))) ≡ as_module payload
 module_there payload k e low high =
     rw (take_rest payload 1)
-    (ap (λ o. of_kind o (drop 1 payload)) e
+    (sym (ap (λ o. of_kind o (drop 1 payload)) e)
     ∙ sym (cond-true _ _ _ (and_from _ _ (le-leb _ _ (rw (take_rest payload 1) at low)) (le-leb _ _ (rw (take_rest payload 1) at high)))))

@@ -11,13 +11,12 @@ ghost use Rattle.sheet.specs.Progressing.{Head, Standing, Counted, clash_content
 ghost use Rattle.sheet.specs.Reading.{placed_of, fields_left};
 ghost use Rattle.graph.specs.Opening.{Placed};
 
-use super::field::{Field, sheet_fault};
+use super::field::Field;
 use super::fields::{FieldAt, Fields};
 use super::names::{Names, read_names};
 use super::progress::Progress;
 use arrayvec::ArrayVec;
-use graph::fault::{Fault, Reason};
-use graph::lookups::element_at;
+use graph::fault::{Fault, Layer, Reason};
 use graph::records::Kind;
 use graph::rules::{is_es, owned_refusal, star_aim};
 
@@ -133,7 +132,7 @@ impl<'a> Progress<'a> {
     {
         let field = next.field()?;
         if let Some(reason) = self.refusal(field) {
-            return Err(sheet_fault(reason, next.place));
+            return Err(Layer::Sheet.fault(reason, next.place));
         }
         self.add(field, behind);
         Ok(())
@@ -157,7 +156,7 @@ fn aim_refusal(field: Field, kinds: &[Kind]) -> Option<Reason>
     ensures { result ≡ aim_by kinds.now (entry_of field.entry) }
 {
     match field {
-        Field::Star { target } => star_aim(element_at(kinds, usize::from(target))),
+        Field::Star { target } => star_aim(kinds.get(usize::from(target)).copied()),
         Field::Import { target, .. } if usize::from(target) >= kinds.len() => Some(
             Reason::NoRecord,
         ),
@@ -174,7 +173,7 @@ fn check_targets(bytes: &[u8], kinds: &[Kind]) -> Result<(), Fault>
             return Ok(());
         };
         if let Some(reason) = aim_refusal(field, kinds) {
-            return Err(sheet_fault(reason, next.place));
+            return Err(Layer::Sheet.fault(reason, next.place));
         }
     }
     Ok(())
@@ -185,7 +184,7 @@ fn check_length(bytes: &[u8]) -> Result<(), Fault>
     ensures { MatchResult result (λ _. too_long bytes.now ≡ None) (λ f. too_long bytes.now ≡ Some f) }
 {
     if bytes.len() > MOST_BYTES {
-        return Err(sheet_fault(Reason::BadLength, MOST_BYTES));
+        return Err(Layer::Sheet.fault(Reason::BadLength, MOST_BYTES));
     }
     Ok(())
 }
@@ -195,7 +194,7 @@ fn finish(bytes: &[u8], progress: &Progress) -> Result<(), Fault>
     ensures { (g : Graph) → Counted progress.now g → MatchResult result (λ _. finished bytes.now g ≡ Ok g) (λ f. finished bytes.now g ≡ Err f) }
 {
     if progress.names == 0 {
-        return Err(sheet_fault(Reason::BadName, bytes.len()));
+        return Err(Layer::Sheet.fault(Reason::BadName, bytes.len()));
     }
     check_targets(bytes, progress.kinds.as_slice())
 }

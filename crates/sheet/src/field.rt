@@ -39,22 +39,12 @@ pub struct Read<'a> {
     pub next: usize,
 }
 
-pub fn sheet_fault(reason: Reason, place: usize) -> Fault
-    ensures { result ≡ fault_at reason place }
-{
-    Fault {
-        reason,
-        place,
-        layer: Layer::Sheet,
-    }
-}
-
 // The number in the two bytes from `at`, the higher byte first.
 fn two_bytes(bytes: &[u8], at: usize) -> u16
     requires { at + 1 < length bytes.now }
     ensures { result ≡ two bytes.now at }
 {
-    u16::from(bytes[at]) * 256 + u16::from(bytes[at + 1])
+    u16::from_be_bytes([bytes[at], bytes[at + 1]])
 }
 
 // What stands in a payload that begins at `offset`, by the field's tag.
@@ -72,7 +62,7 @@ fn read_content(tag: u8, payload: &[u8], offset: usize) -> Result<Field<'_>, Rea
         4 if payload.len() == 6 => Ok(Field::Import {
             symbol: two_bytes(payload, 0),
             target: two_bytes(payload, 2),
-            wanted: Wanted::numbered(two_bytes(payload, 4)),
+            wanted: Wanted::from(two_bytes(payload, 4)),
         }),
         5 if payload.len() == 4 => Ok(Field::Export {
             name: two_bytes(payload, 0),
@@ -87,7 +77,7 @@ fn read_name(payload: &[u8], offset: usize) -> Result<Field<'_>, Reason>
     ensures content { content_of result ≡ content 1 payload.now }
     ensures begins { IfOk result (λ f. Begins f offset) }
 {
-    if payload.len() < 1 || payload.len() > LONGEST_NAME {
+    if payload.is_empty() || payload.len() > LONGEST_NAME {
         return Err(Reason::Malformed);
     }
     Ok(Field::Name {
@@ -104,10 +94,10 @@ fn read_module(payload: &[u8], offset: usize) -> Result<Field<'_>, Reason>
     let [number, id @ ..] = payload else {
         return Err(Reason::Malformed);
     };
-    let Some(kind) = Kind::numbered(*number) else {
+    let Ok(kind) = Kind::try_from(*number) else {
         return Err(Reason::Malformed);
     };
-    if id.len() < 1 || id.len() > LONGEST_ID {
+    if id.is_empty() || id.len() > LONGEST_ID {
         return Err(Reason::Malformed);
     }
     Ok(Field::Module {
@@ -122,16 +112,16 @@ pub fn read_field(bytes: &[u8], at: usize) -> Result<Read<'_>, Fault>
     ensures { MatchResult result (λ (f : Read). (field_at bytes.now at ≡ Ok (entry_of f.field)) × (f.next ≡ next_at bytes.now at) × (f.next ≤ length bytes.now) × Begins f.field (at + 3)) (λ (e : Fault). (field_at bytes.now at ≡ Err e.reason) × (e ≡ fault_at e.reason at)) }
 {
     if at > bytes.len() || bytes.len() - at < 3 {
-        return Err(sheet_fault(Reason::BadLength, at));
+        return Err(Layer::Sheet.fault(Reason::BadLength, at));
     }
     let size = usize::from(two_bytes(bytes, at + 1));
     let start = at + 3;
     if bytes.len() - start < size {
-        return Err(sheet_fault(Reason::BadLength, at));
+        return Err(Layer::Sheet.fault(Reason::BadLength, at));
     }
     let next = start + size;
     match read_content(bytes[at], &bytes[start..next], start) {
         Ok(field) => Ok(Read { field, next }),
-        Err(reason) => Err(sheet_fault(reason, at)),
+        Err(reason) => Err(Layer::Sheet.fault(reason, at)),
     }
 }

@@ -4,8 +4,8 @@ ghost use Rattle.sheet.specs.Fields.{fault_at};
 ghost use Rattle.sheet.specs.Opening.{fields_at};
 ghost use Rattle.sheet.specs.Reading.{placed_of, readable, fields_left};
 
-use super::field::{Field, Read, read_field, sheet_fault};
-use graph::fault::{Fault, Reason};
+use super::field::{Field, Read, read_field};
+use graph::fault::{Fault, Layer, Reason};
 
 // A field of a sheet: where it begins, and what it says or why it cannot be read.
 #[derive(Clone, Copy)]
@@ -20,7 +20,8 @@ impl<'a> FieldAt<'a> {
         ensures { MatchResult result (λ f. self.entry.content ≡ Ok f) (λ e. (self.entry.content ≡ Err e.reason) × (e ≡ fault_at e.reason self.entry.place)) }
     {
         let place = self.place;
-        self.content.map_err(|reason| sheet_fault(reason, place))
+        self.content
+            .map_err(|reason| Layer::Sheet.fault(reason, place))
     }
 }
 

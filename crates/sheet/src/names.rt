@@ -5,11 +5,11 @@ ghost use Rattle.sheet.specs.Opening.{fields_at, gathered};
 ghost use Rattle.sheet.specs.Progressing.{Head};
 ghost use Rattle.sheet.specs.Reading.{fields_left};
 
-use super::field::{Field, sheet_fault};
+use super::field::Field;
 use super::fields::{FieldAt, Fields};
-use graph::fault::{Fault, Reason};
+use graph::fault::{Fault, Layer, Reason};
 use graph::limits::MOST_NAMES;
-use graph::rules::{is_wrong_first, same_bytes};
+use graph::rules::is_wrong_first;
 
 // The names at the head of a sheet: how many, and the fields behind them.
 #[derive(Clone, Copy)]
@@ -23,7 +23,7 @@ fn is_name(field: FieldAt, name: &[u8]) -> bool
     ensures { result ≡ is_name field.entry.content name.now }
 {
     match field.content {
-        Ok(Field::Name { bytes, .. }) => same_bytes(name, bytes),
+        Ok(Field::Name { bytes, .. }) => name == bytes,
         _ => false,
     }
 }
@@ -42,7 +42,7 @@ pub fn read_names(bytes: &[u8]) -> Result<Names<'_>, Fault>
             break 'names;
         };
         if is_wrong_first(count, name) {
-            return Err(sheet_fault(Reason::BadName, next.place));
+            return Err(Layer::Sheet.fault(Reason::BadName, next.place));
         }
         for earlier in all.take(count) {
             if is_name(earlier, name) {
@@ -51,13 +51,13 @@ pub fn read_names(bytes: &[u8]) -> Result<Names<'_>, Fault>
             }
         }
         if count >= MOST_NAMES {
-            return Err(sheet_fault(Reason::OverLimit, next.place));
+            return Err(Layer::Sheet.fault(Reason::OverLimit, next.place));
         }
         behind = left;
         count += 1;
     }
     match repeated {
-        Some(place) => Err(sheet_fault(Reason::BadName, place)),
+        Some(place) => Err(Layer::Sheet.fault(Reason::BadName, place)),
         None => Ok(Names { count, behind }),
     }
 }

@@ -19,7 +19,7 @@ returns-in-Some-aim_refusal c = λ g are.
     sym (c.loop-next.invariant.2 g are)
     ∙ ap (aims g) (begins_ok (fields_left c.loop-next.next-iterator) (fields_left c.next.new.self) c.in-Some.next.place c.in-Some.next.content c.in-Some.ensures.steps c.in-Ok.field c.in-Ok.is)
     ∙ aims_stop g c.in-Some.next.place _ (fields_left c.next.new.self) c.args.kinds.now are _ (sym c.aim_refusal.ensures ∙ c.in-Some-aim_refusal.is)
-    ∙ ap (λ f. Some f) (sym c.sheet_fault.ensures)
+    ∙ ap (λ f. Some f) (sym c.fault.ensures)
 
 pub loop-next-preserved : goal.loop-next-preserved
 loop-next-preserved c = (

@@ -9,7 +9,7 @@ returns-in-Ok c = (field_there c.args.bytes.now c.args.at c.from-size.result (c.
 
 pub returns-in-Err : goal.returns-in-Err
 returns-in-Err c =
-    let told = c.sheet_fault-in-Err.ensures in (
+    let told = c.fault-in-Err.ensures in (
       field_there c.args.bytes.now c.args.at c.from-size.result (c.from-size.ensures ∙ c.two_bytes.ensures) (omega arith) ∙ sym c.in-Err.ensures.content ∙ ap (λ (f : Fault). Err f.reason) (sym told),
       told ∙ ap (λ (f : Fault). fault_at f.reason c.args.at) (sym told),
     )

@@ -23,7 +23,7 @@ returns-in_err-name c =
 pub returns-then-is_wrong_first : goal.returns-then-is_wrong_first
 returns-then-is_wrong_first c =
     first_refused c.names.invariant.0 c.in-Some.next.place c.in-Some.next.content (fields_left c.next.new.self) c.in-Some.ensures.steps c.in-Name.name c.in-Name.offset (c.in_ok-name.ensures ∙ ap (λ f. Ok f) c.in-Name.is) (sym c.if-is_wrong_first.ensures)
-    ∙ ap (λ f. Err f) (sym c.sheet_fault.ensures)
+    ∙ ap (λ f. Err f) (sym c.fault.ensures)
 
 pub loop-earlier-init : goal.loop-earlier-init
 loop-earlier-init c = (
@@ -49,7 +49,7 @@ pub returns-then-count-ge-MOST_NAMES : goal.returns-then-count-ge-MOST_NAMES
 returns-then-count-ge-MOST_NAMES c =
     limit_refused c.names.invariant.0 c.in-Some.next.place c.in-Some.next.content (fields_left c.next.new.self) c.in-Some.ensures.steps c.in-Name.name c.in-Name.offset (c.in_ok-name.ensures ∙ ap (λ f. Ok f) c.in-Name.is) (sym c.if-is_wrong_first.ensures)
     (sym c.loop-earlier.invariant.2 ∙ repeated_none c.in-Name.name.now c.loop-earlier.earlier-iterator.n (fields_left c.loop-earlier.earlier-iterator.iter) (λ some. (c.in-None.ensures.steps some).0)) c.if-count-ge-MOST_NAMES.true
-    ∙ ap (λ f. Err f) (sym c.sheet_fault-then-count-ge-MOST_NAMES.ensures)
+    ∙ ap (λ f. Err f) (sym c.fault-then-count-ge-MOST_NAMES.ensures)
 
 pub names-preserved : goal.names-preserved
 names-preserved c = (
@@ -66,6 +66,6 @@ returns-in-Some-repeated c = elim c.match-next.branch [
       let place : w.in-Some.next.place ≡ c.in-Some-repeated.place = cc (w.repeated-is, c.in-Some-repeated.is) in
       let same = repeated_here w.in-Name.name.now w.loop-earlier.earlier-iterator.n (fields_left w.loop-earlier.earlier-iterator.iter) w.next-in-loop-earlier.new.self.n (placed_of w.in-Some-earlier.earlier) (fields_left w.next-in-loop-earlier.new.self.iter) w.in-Some-earlier.ensures.steps.0 w.in-Some-earlier.ensures.steps.1 (sym (name_test w.in-Some-earlier.earlier.content w.in-Name.name.now) ∙ sym w.if-is_name.ensures) in
       repeated_refused c.names.invariant.0 w.in-Some.next.place w.in-Some.next.content (fields_left c.next.new.self) w.in-Some.ensures.steps w.in-Name.name w.in-Name.offset (w.in_ok-name.ensures ∙ ap (λ f. Ok f) w.in-Name.is) (sym w.loop-earlier.invariant.2 ∙ same)
-      ∙ ap (λ p. Err (fault_at BadName p)) place ∙ ap (λ f. Err f) (sym c.sheet_fault-in-Some-repeated.ensures)
+      ∙ ap (λ p. Err (fault_at BadName p)) place ∙ ap (λ f. Err f) (sym c.fault-in-Some-repeated.ensures)
   | in_default w ↦ let never : true ≡ false = cc (c.names.invariant.2, w.repeated-is, c.in-Some-repeated.is) in absurd (false≢true (sym never))
 ]

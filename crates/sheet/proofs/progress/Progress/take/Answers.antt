@@ -14,7 +14,7 @@ returns-in-Some c = λ all g standing.
     let read = ap content_of c.in_ok-field.ensures in
     stops all c.args.self.now c.args.next.place (content_of c.args.next.content) (fields_left c.args.behind) g standing c.in-Some.reason
     (ap (field_refusal g) read ∙ sym (c.in-Some.ensures.first all _ g standing (λ name zero is. standing.named zero _ _ name refl (read ∙ ap (λ e. Ok e) is))))
-    ∙ ap (λ f. Err f) (sym c.sheet_fault.ensures)
+    ∙ ap (λ f. Err f) (sym c.fault.ensures)
 
 pub returns : goal.returns
 returns c = λ all g standing.
