@@ -1,7 +1,7 @@
 -- Opening tables, from the checks of each list.
 use Rattle.std.proofs.Common.{◌≡◌, ℕ, ◌+◌, ◌<◌, List, [], ◌∷◌, ◌++◌, length, Some, None, Ok, Err, Option, Result, sym, refl, ap, ◌∙◌, append_assoc, arith, MatchResult}
 use Rattle.std.specs.List.{AllByRecursion}
-use Rattle.std.proofs.ByRecursion.{All-append}
+use Rattle.std.proofs.ByRecursion.{All-append, all_from_every}
 use Rattle.std.proofs.lemmas.List.{length-map}
 use Rattle.std.proofs.lemmas.Result.{MatchResult-weaker}
 use Rattle.std.proofs.lemmas.Bool.{cond-true, cond-false, eq-eqb, ne_eqb}
@@ -15,7 +15,6 @@ use Rattle.graph.specs.Rules.{Given, aim_cases, aim_refusal, placed, either_faul
 use Rattle.graph.specs.Opening.{Placed, fault_in, gathered, aims, finished, or_only_default}
 use Rattle.graph.specs.Foremost.{AimsWell}
 use Rattle.graph.specs.Soundness.{Sound}
-use Rattle.graph.proofs.Rising.{all_any}
 use Rattle.graph.proofs.Foremost.{none_given}
 use Rattle.graph.proofs.Firstly.{gathered_past, gathered_ends, aims_past, first_from_err, err_from_first, first_from_opened}
 use Rattle.graph.proofs.Soundly.{FormedContent, FormedRecord, formed_either, formed_name, formed_module, opened_sound}
@@ -104,7 +103,7 @@ module _ (h : Held) where
         ∙ aims_append (meant h) star_writes star_entry (star_place h) h.stars (import_rows h ++ export_rows h)
         ∙ ap (either_fault (aims_of h star_writes star_entry (star_place h) h.stars)) (
         aims_append (meant h) import_writes import_entry (import_place h) h.imports (export_rows h)
-        ∙ ap (either_fault (aims_of h import_writes import_entry (import_place h) h.imports)) (aims_well (meant h) export_writes export_entry (export_place h) h.exports (all_any _ (λ _. refl) h.exports))
+        ∙ ap (either_fault (aims_of h import_writes import_entry (import_place h) h.imports)) (aims_well (meant h) export_writes export_entry (export_place h) h.exports (all_from_every _ h.exports (λ k d low high. refl)))
         ∙ either_last (aims_of h import_writes import_entry (import_place h) h.imports))
 
     -- what is left of opening

@@ -1,8 +1,9 @@
 -- Owners that fall, and look-ups by owner, over lists and what they are made from.
-use Rattle.std.proofs.Common.{◌≡◌, ℕ, zero, suc, ◌-◌, ◌<◌, ◌≤◌, Bool, true, false, cond, ◌&&◌, ◌||◌, eqb, ltb, List, [], ◌∷◌, map, length, get_or, is_some, Some, None, Option, sym, refl, ap, ◌∙◌, ⊎_elim, arith}
+use Rattle.std.proofs.Common.{◌≡◌, ℕ, zero, suc, ◌-◌, ◌<◌, ◌≤◌, Bool, true, false, cond, ◌&&◌, ◌||◌, eqb, ltb, List, [], ◌∷◌, map, length, get_or, is_some, Some, None, Option, sym, refl, ap, ◌∙◌, ⊎_elim, arith, MatchOption}
 use Rattle.std.specs.Option.{option_map}
-use Rattle.std.specs.List.{AllByRecursion}
+use Rattle.std.specs.List.{slice_get, AllByRecursion}
 use Rattle.std.proofs.ByRecursion.{All-from_get_or}
+use Rattle.std.proofs.lemmas.Option.{slice_get-get_or}
 use Rattle.std.proofs.lemmas.Bool.{or_from, or_left, or_right, lt-ltb, le-ltb, cases_lt}
 use Rattle.graph.specs.Lookups.{first_keyed}
 use Rattle.graph.specs.Opening.{falls_behind}
@@ -25,6 +26,15 @@ module _ {X : Type 0} (owner : X → ℕ) (m : ℕ) where
       (λ h. lt-ltb m (owner x) h ∙ sym (falls_at xs (length xs - 1) x (omega arith) (omega (arith, ap owner is))))
       (λ h. le-ltb m (owner x) h ∙ sym (falls_never xs (All-from_get_or (λ y. owner y ≤ m) xs x (λ i inside. omega (arith, rises owner xs up i (length xs - 1) x (omega arith) (omega arith), ap owner is)))))
       (cases_lt m (owner x))
+
+  pub falls_told : (xs : List X) (o : Option X) (r : Bool) → Rising owner xs → o ≡ slice_get xs (length xs - 1) → MatchOption o (r ≡ false) (λ x. r ≡ ltb m (owner x)) → r ≡ falls_behind owner xs m
+  falls_told [] None r up is told = told
+  falls_told [] (Some x) r up is told = absurd cc
+  falls_told (y ∷ ys) None r up is told = let never : None ≡ Some (get_or (y ∷ ys) (length (y ∷ ys) - 1) y) = is ∙ slice_get-get_or (y ∷ ys) (length (y ∷ ys) - 1) y (omega arith) in absurd cc
+  falls_told (y ∷ ys) (Some x) r up is told =
+      let here : Some x ≡ Some (get_or (y ∷ ys) (length (y ∷ ys) - 1) x) = is ∙ slice_get-get_or (y ∷ ys) (length (y ∷ ys) - 1) x (omega arith) in
+      let same : x ≡ get_or (y ∷ ys) (length (y ∷ ys) - 1) x = cc in
+      told ∙ falls_last (y ∷ ys) x up (omega arith) same
 
 module _ {X Y : Type 0} (f : X → Y) where
   pub falls_map : (owner : Y → ℕ) (xs : List X) (m : ℕ) → falls_behind owner (map f xs) m ≡ falls_behind (λ x. owner (f x)) xs m

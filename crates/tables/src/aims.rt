@@ -4,10 +4,9 @@ ghost use Rattle.graph.specs.Rules.{aim_refusal};
 ghost use Rattle.tables.specs.Rows.{Held, star_entry, import_entry, meant};
 ghost use Rattle.tables.specs.Staging.{AimsTold};
 
-use super::fault::tables_fault;
 use super::kinds::kind_at;
 use super::lists::{ImportRow, ModuleRow};
-use graph::fault::{Fault, Reason};
+use graph::fault::{Fault, Layer, Reason};
 use graph::records::Star;
 use graph::rules::star_aim;
 
@@ -50,7 +49,7 @@ pub(crate) fn check_aims<R: Aimed>(
 {
     for (i, row) in rows.iter().enumerate() {
         if let Some(reason) = row.aim(modules) {
-            return Err(tables_fault(reason, first + i));
+            return Err(Layer::Tables.fault(reason, first + i));
         }
     }
     Ok(())

@@ -10,11 +10,10 @@ ghost use Rattle.tables.specs.Opening.{opened, FirstFault};
 ghost use Rattle.tables.specs.Borrowed.{held};
 
 use super::aims::check_aims;
-use super::fault::tables_fault;
 use super::lists::Lists;
 use super::names::check_names;
 use super::row::Row;
-use graph::fault::{Fault, Reason};
+use graph::fault::{Fault, Layer, Reason};
 
 // Checks the records of a list one by one, where `first` records stand in the lists before it.
 fn check_rows<R: Row>(lists: Lists, rows: &[R], first: usize) -> Result<(), Fault>
@@ -22,8 +21,8 @@ fn check_rows<R: Row>(lists: Lists, rows: &[R], first: usize) -> Result<(), Faul
     ensures { Tells R.writes (R.content (held lists.entry).bytes) (R.stage (held lists.entry)) first rows.now result }
 {
     for (i, row) in rows.iter().enumerate() {
-        if let Some(reason) = row.refusal(lists, &rows[0..i]) {
-            return Err(tables_fault(reason, first + i));
+        if let Some(reason) = row.refusal(lists, &rows[..i]) {
+            return Err(Layer::Tables.fault(reason, first + i));
         }
     }
     Ok(())
@@ -52,7 +51,7 @@ fn finish(lists: Lists) -> Result<(), Fault>
     let imports = stars + lists.stars.len();
     if lists.names.is_empty() {
         let end = imports + lists.imports.len() + lists.exports.len();
-        return Err(tables_fault(Reason::BadName, end));
+        return Err(Layer::Tables.fault(Reason::BadName, end));
     }
     check_aims(lists.modules, lists.stars, stars)?;
     check_aims(lists.modules, lists.imports, imports)

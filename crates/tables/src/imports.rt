@@ -4,16 +4,16 @@ ghost use Rattle.tables.specs.Rows.{import_of};
 use super::lists::ImportRow;
 use graph::records::{Import, Wanted};
 
-impl ImportRow {
-    // The import that it stands for.
-    pub fn import(self) -> Import
-        ensures { result ≡ import_of self }
-    {
+// The import that a row stands for.
+impl From<ImportRow> for Import {
+    ghost from_gives = { λ row import. import ≡ import_of row };
+
+    fn from(row: ImportRow) -> Import {
         Import {
-            owner: self.owner,
-            symbol: self.symbol,
-            target: self.target,
-            wanted: Wanted::numbered(self.name),
+            owner: row.owner,
+            symbol: row.symbol,
+            target: row.target,
+            wanted: Wanted::from(row.name),
         }
     }
 }

@@ -3,7 +3,6 @@ ghost use Rattle.graph.specs.Lookups.{kind_in};
 ghost use Rattle.tables.specs.Rows.{row_kind, module_of};
 
 use super::lists::ModuleRow;
-use graph::lookups::element_at;
 use graph::records::Kind;
 
 impl ModuleRow {
@@ -11,7 +10,7 @@ impl ModuleRow {
     pub fn kind_or_empty(self) -> Kind
         ensures { result ≡ row_kind self }
     {
-        Kind::numbered(self.kind).unwrap_or(Kind::Empty)
+        Kind::try_from(self.kind).unwrap_or(Kind::Empty)
     }
 }
 
@@ -19,8 +18,5 @@ impl ModuleRow {
 pub fn kind_at(modules: &[ModuleRow], m: usize) -> Option<Kind>
     ensures { (run : List ℕ) → result ≡ kind_in (map (module_of run) modules.now) m }
 {
-    let Some(row) = element_at(modules, m) else {
-        return None;
-    };
-    Some(row.kind_or_empty())
+    modules.get(m).copied().map(ModuleRow::kind_or_empty)
 }

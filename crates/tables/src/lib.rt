@@ -3,7 +3,6 @@
 
 mod aims;
 mod checks;
-mod fault;
 pub mod imports;
 pub mod kinds;
 mod lending;

@@ -6,18 +6,17 @@ ghost use Rattle.tables.specs.Rows.{no_owner, name_content, with_names};
 ghost use Rattle.tables.specs.Staging.{Tells};
 ghost use Rattle.tables.specs.Borrowed.{held};
 
-use super::fault::tables_fault;
 use super::lists::{Lists, Span};
-use graph::fault::{Fault, Reason};
+use graph::fault::{Fault, Layer, Reason};
 use graph::limits::{LONGEST_NAME, MOST_NAMES};
-use graph::rules::{is_wrong_first, same_bytes};
+use graph::rules::is_wrong_first;
 
 // The bytes of a name, where it can be read.
 fn read_name(run: &[u8], span: Span) -> Option<&[u8]>
     ensures { MatchOption result (name_content run.now span ≡ Err Malformed) (λ name. (name_content run.now span ≡ Ok (a_name name.now)) × (name.now ≡ bytes_in run.now span)) }
 {
     let name = span.bytes(run);
-    if !span.is_inside(run) || name.len() < 1 || name.len() > LONGEST_NAME {
+    if !span.is_inside(run) || name.is_empty() || name.len() > LONGEST_NAME {
         return None;
     }
     Some(name)
@@ -32,24 +31,23 @@ pub(crate) fn check_names(lists: Lists) -> Result<(), Fault>
     let mut repeated = None;
     'names: for (place, span) in names.iter().enumerate() {
         let Some(name) = read_name(run, *span) else {
-            return Err(tables_fault(Reason::Malformed, place));
+            return Err(Layer::Tables.fault(Reason::Malformed, place));
         };
         if is_wrong_first(place, name) {
-            return Err(tables_fault(Reason::BadName, place));
+            return Err(Layer::Tables.fault(Reason::BadName, place));
         }
-        let before = &names[0..place];
-        for earlier in before {
-            if same_bytes(name, earlier.bytes(run)) {
+        for earlier in &names[..place] {
+            if name == earlier.bytes(run) {
                 repeated = Some(place);
                 break 'names;
             }
         }
         if place >= MOST_NAMES {
-            return Err(tables_fault(Reason::OverLimit, place));
+            return Err(Layer::Tables.fault(Reason::OverLimit, place));
         }
     }
     match repeated {
-        Some(place) => Err(tables_fault(Reason::BadName, place)),
+        Some(place) => Err(Layer::Tables.fault(Reason::BadName, place)),
         None => Ok(()),
     }
 }

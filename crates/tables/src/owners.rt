@@ -26,8 +26,8 @@ impl Keyed for ImportRow {
 pub(crate) fn falls_behind<T: Owned>(before: &[T], owner: u16) -> bool
     ensures { Rising T.belongs before.now → result ≡ falls_behind T.belongs before.now owner }
 {
-    if before.is_empty() {
-        return false;
-    }
-    owner < before[before.len() - 1].owner()
+    before
+        .last()
+        .copied()
+        .is_some_and(|last| owner < last.owner())
 }

@@ -47,12 +47,12 @@ impl Row for ModuleRow {
 
     fn refusal(&self, lists: Lists, before: &[ModuleRow]) -> Option<Reason> {
         let id = self.id.bytes(lists.bytes);
-        if !self.id.is_inside(lists.bytes) || id.len() < 1 || id.len() > LONGEST_ID {
+        if !self.id.is_inside(lists.bytes) || id.is_empty() || id.len() > LONGEST_ID {
             return Some(Reason::Malformed);
         }
-        let Some(_) = Kind::numbered(self.kind) else {
+        if Kind::try_from(self.kind).is_err() {
             return Some(Reason::Malformed);
-        };
+        }
         if before.len() >= MOST_MODULES {
             return Some(Reason::OverLimit);
         }
@@ -84,7 +84,7 @@ impl Row for ImportRow {
     ghost grows = { imports_grow };
 
     fn refusal(&self, lists: Lists, before: &[ImportRow]) -> Option<Reason> {
-        let nameless = Wanted::numbered(self.name).is_unknown(lists.names.len());
+        let nameless = Wanted::from(self.name).is_unknown(lists.names.len());
         let twice = find_of(before, usize::from(self.owner), usize::from(self.symbol)).is_some();
         refusal_behind(lists, before, self.owner, nameless, twice)
     }

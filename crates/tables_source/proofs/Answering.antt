@@ -3,13 +3,14 @@ use Rattle.std.proofs.Common.{◌≡◌, ℕ, ◌≤◌, true, List, [], ◌∷�
 use Rattle.std.specs.List.{slice_get}
 use Rattle.std.specs.Option.{option_map}
 use Rattle.std.proofs.lemmas.List.{length-map}
+use Rattle.std.proofs.lemmas.Option.{slice_get-map}
 use Rattle.graph.specs.declared.records.Kind.{Kind}
 use Rattle.graph.specs.declared.records.Star.{Star}
 use Rattle.graph.specs.declared.records.Export.{Export}
 use Rattle.graph.specs.Graphs.{Graph}
 use Rattle.graph.specs.Lookups.{owned_by, first_keyed, star_owner, star_target, import_owner, import_symbol, export_owner, export_name, export_symbol, kind_in, targets_in, exports_in, symbol_in, import_in}
 use Rattle.graph.specs.Soundness.{Rising, Sound}
-use Rattle.graph.proofs.Keyed.{nth_map, all_from_map, symbol_keyed, import_keyed, targets_owned, exports_owned}
+use Rattle.graph.proofs.Keyed.{all_from_map, symbol_keyed, import_keyed, targets_owned, exports_owned}
 use Rattle.tables.specs.declared.lists.ImportRow.{ImportRow}
 use Rattle.tables.specs.Rows.{Held, module_of, import_of, meant}
 use Rattle.tables.specs.Opening.{opened, graph_of}
@@ -41,7 +42,7 @@ module _ (h : Held) (opens : is_ok (opened h) ≡ true) where
   pub star_answer : (m k : ℕ) (o : Option Star) → (Rising star_owner h.stars → o ≡ slice_get (owned_by star_owner h.stars m) k) → option_map star_target o ≡ slice_get (targets_in (graph_of h).stars m) k
   star_answer m k o told =
       ap (option_map star_target) (told (meant_sound h opens).stars_rise)
-      ∙ sym (nth_map star_target (owned_by star_owner h.stars m) k)
+      ∙ sym (slice_get-map star_target (owned_by star_owner h.stars m) k)
       ∙ ap (λ l. slice_get l k) (sym (targets_owned h.stars m))
       ∙ of_graph (λ g. slice_get (targets_in g.stars m) k)
 
@@ -49,7 +50,7 @@ module _ (h : Held) (opens : is_ok (opened h) ≡ true) where
   export_answer m k o told = told (meant_sound h opens).exports_rise ∙ ap (λ l. slice_get l k) (sym (exports_owned h.exports m)) ∙ of_graph (λ g. slice_get (exports_in g.exports m) k)
 
   pub import_answer : (i : ℕ) (o : Option ImportRow) → o ≡ slice_get h.imports i → option_map import_of o ≡ slice_get (graph_of h).imports i
-  import_answer i o told = ap (option_map import_of) told ∙ sym (nth_map import_of h.imports i) ∙ of_graph (λ g. slice_get g.imports i)
+  import_answer i o told = ap (option_map import_of) told ∙ sym (slice_get-map import_of h.imports i) ∙ of_graph (λ g. slice_get g.imports i)
 
   pub symbol_answer : (m n : ℕ) (o : Option Export) → (Rising export_owner h.exports → o ≡ first_keyed export_owner export_name h.exports m n) → option_map export_symbol o ≡ symbol_in (graph_of h).exports m n
   symbol_answer m n o told = ap (option_map export_symbol) (told (meant_sound h opens).exports_rise) ∙ sym (symbol_keyed h.exports m n) ∙ of_graph (λ g. symbol_in g.exports m n)

@@ -3,7 +3,7 @@ ghost use Rattle.tables.specs.Opening.{opened, graph_of};
 ghost use Rattle.tables.specs.Borrowed.{held};
 
 use super::opened::Tables;
-use graph::lookups::{Keyed, Owned, element_at, find_of, nth_of};
+use graph::lookups::{Keyed, Owned, find_of, nth_of};
 use graph::records::{Export, Import, Kind};
 use graph::source::ModuleSource;
 use tables::kinds::kind_at;
@@ -54,10 +54,7 @@ impl ModuleSource for Tables<'_> {
     }
 
     fn star(&self, m: usize, k: usize) -> Option<u16> {
-        let Some(star) = nth_of(self.lists.stars, m, k) else {
-            return None;
-        };
-        Some(star.target)
+        nth_of(self.lists.stars, m, k).map(|star| star.target)
     }
 
     fn export(&self, m: usize, k: usize) -> Option<Export> {
@@ -65,23 +62,14 @@ impl ModuleSource for Tables<'_> {
     }
 
     fn import(&self, i: usize) -> Option<Import> {
-        let Some(row) = element_at(self.lists.imports, i) else {
-            return None;
-        };
-        Some(row.import())
+        self.lists.imports.get(i).copied().map(Import::from)
     }
 
     fn exported_symbol(&self, m: usize, n: usize) -> Option<u16> {
-        let Some(export) = find_of(self.lists.exports, m, n) else {
-            return None;
-        };
-        Some(export.symbol)
+        find_of(self.lists.exports, m, n).map(|export| export.symbol)
     }
 
     fn import_behind(&self, m: usize, s: usize) -> Option<Import> {
-        let Some(row) = find_of(self.lists.imports, m, s) else {
-            return None;
-        };
-        Some(row.import())
+        find_of(self.lists.imports, m, s).map(Import::from)
     }
 }

@@ -7,7 +7,7 @@ pub returns-in-Some : goal.returns-in-Some
 returns-in-Some g c = λ h are owner.
     sym (c.loop-i.invariant h are owner)
     ∙ aim_stops h owner g.R.Aimed.entry c.args.first c.args.rows.now c.loop-i.i c.loop-i-test.true c.index-rows-i.result c.index-rows-i.is c.in-Some.reason (c.in-Some.ensures h are)
-    ∙ ap (λ f. Some f) (sym c.tables_fault.ensures)
+    ∙ ap (λ f. Some f) (sym c.fault.ensures)
 
 pub loop-i-preserved : goal.loop-i-preserved
 loop-i-preserved g c = λ h are owner. aim_passes h owner g.R.Aimed.entry c.args.first c.args.rows.now c.loop-i.i c.loop-i-test.true c.index-rows-i.result c.index-rows-i.is (c.in_default.ensures h are) ∙ c.loop-i.invariant h are owner

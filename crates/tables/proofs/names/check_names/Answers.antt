@@ -9,23 +9,23 @@ use Rattle.tables.specs.Rows.{no_owner, name_content, with_names}
 use Rattle.tables.proofs.Staged.{pass_all}
 use Rattle.tables.proofs.Named.{unread, first_refused, repeated_refused, limit_refused, name_passes, listed_on, listed_here, listed_never, never_some, same_some}
 use Rattle.tables.proofs.names.check_names.Goals as goal
-use Rattle.tables.proofs.names.check_names.Goals.{else-names-test, then-names-test+in-Some+else-is_wrong_first+then-loop-earlier-test+then-same_bytes}
+use Rattle.tables.proofs.names.check_names.Goals.{else-names-test, then-names-test+in-Some+else-is_wrong_first+then-loop-earlier-test+then-eq}
 
 pub returns-in_default : goal.returns-in_default
-returns-in_default c = unread (held c.args.lists) c.names.place _ c.names-test.true c.names.invariant.0 _ c.in_default.ensures ∙ ap (λ f. Err f) (sym c.tables_fault.ensures)
+returns-in_default c = unread (held c.args.lists) c.names.place _ c.names-test.true c.names.invariant.0 _ c.in_default.ensures ∙ ap (λ f. Err f) (sym c.fault.ensures)
 
 pub returns-then-is_wrong_first : goal.returns-then-is_wrong_first
-returns-then-is_wrong_first c = first_refused (held c.args.lists) c.names.place _ c.names-test.true c.names.invariant.0 c.in-Some.ensures.0 (sym c.if-is_wrong_first.ensures) ∙ ap (λ f. Err f) (sym c.tables_fault-then-is_wrong_first.ensures)
+returns-then-is_wrong_first c = first_refused (held c.args.lists) c.names.place _ c.names-test.true c.names.invariant.0 c.in-Some.ensures.0 (sym c.if-is_wrong_first.ensures) ∙ ap (λ f. Err f) (sym c.fault-then-is_wrong_first.ensures)
 
 pub loop-earlier-preserved : goal.loop-earlier-preserved
 loop-earlier-preserved c =
-    let other = c.if-same_bytes.ensures ∙ ap (bytes_eq c.in-Some.name.now) c.bytes.ensures in
+    let other = c.if-eq.ensures ∙ ap (bytes_eq c.in-Some.name.now) c.bytes.ensures in
     (listed_on (bytes_in c.args.lists.bytes.now) c.in-Some.name.now _ c.loop-earlier.earlier-index _ c.loop-earlier-test.true other ∙ c.loop-earlier.invariant.0, c.loop-earlier.invariant.1)
 
 pub returns-then-place-ge-MOST_NAMES : goal.returns-then-place-ge-MOST_NAMES
 returns-then-place-ge-MOST_NAMES c =
     let none = sym c.loop-earlier.invariant.0 ∙ listed_never (bytes_in c.args.lists.bytes.now) c.in-Some.name.now _ c.loop-earlier.earlier-index c.loop-earlier-test.false in
-    limit_refused (held c.args.lists) c.names.place _ c.names-test.true c.names.invariant.0 c.in-Some.ensures.0 _ (omega arith) (sym c.if-is_wrong_first.ensures) none c.if-place-ge-MOST_NAMES.true ∙ ap (λ f. Err f) (sym c.tables_fault-then-place-ge-MOST_NAMES.ensures)
+    limit_refused (held c.args.lists) c.names.place _ c.names-test.true c.names.invariant.0 c.in-Some.ensures.0 _ (omega arith) (sym c.if-is_wrong_first.ensures) none c.if-place-ge-MOST_NAMES.true ∙ ap (λ f. Err f) (sym c.fault-then-place-ge-MOST_NAMES.ensures)
 
 pub names-preserved : goal.names-preserved
 names-preserved c =
@@ -35,15 +35,15 @@ names-preserved c =
 pub returns-in-Some-repeated : goal.returns-in-Some-repeated
 returns-in-Some-repeated c = elim c.names-test.branch [
   | else-names-test w ↦ absurd (never_some _ _ (w.repeated-is ∙ c.names.invariant.1) c.in-Some-repeated.is)
-  | then-names-test+in-Some+else-is_wrong_first+then-loop-earlier-test+then-same_bytes w ↦
-      let same = w.if-same_bytes.ensures ∙ ap (bytes_eq w.in-Some.name.now) w.bytes.ensures in
+  | then-names-test+in-Some+else-is_wrong_first+then-loop-earlier-test+then-eq w ↦
+      let same = w.if-eq.ensures ∙ ap (bytes_eq w.in-Some.name.now) w.bytes.ensures in
       let there = sym w.loop-earlier.invariant.0 ∙ listed_here (bytes_in c.args.lists.bytes.now) w.in-Some.name.now _ w.loop-earlier.earlier-index _ w.loop-earlier-test.true same in
       let place = same_some _ _ _ w.repeated-is c.in-Some-repeated.is in
-      repeated_refused (held c.args.lists) c.names.place _ w.names-test.true c.names.invariant.0 w.in-Some.ensures.0 _ (omega arith) there ∙ ap (λ p. Err (fault_in layer.Tables BadName p)) place ∙ ap (λ f. Err f) (sym c.tables_fault-in-Some-repeated.ensures)
+      repeated_refused (held c.args.lists) c.names.place _ w.names-test.true c.names.invariant.0 w.in-Some.ensures.0 _ (omega arith) there ∙ ap (λ p. Err (fault_in layer.Tables BadName p)) place ∙ ap (λ f. Err f) (sym c.fault-in-Some-repeated.ensures)
 ]
 
 pub returns-in-None : goal.returns-in-None
 returns-in-None c = elim c.names-test.branch [
   | else-names-test w ↦ pass_all no_owner (name_content c.args.lists.bytes.now) (with_names (held c.args.lists)) 0 c.args.lists.names.now c.names.place w.names-test.false c.names.invariant.0
-  | then-names-test+in-Some+else-is_wrong_first+then-loop-earlier-test+then-same_bytes w ↦ absurd (never_some _ _ c.in-None.is w.repeated-is)
+  | then-names-test+in-Some+else-is_wrong_first+then-loop-earlier-test+then-eq w ↦ absurd (never_some _ _ c.in-None.is w.repeated-is)
 ]

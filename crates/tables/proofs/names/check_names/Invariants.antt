@@ -12,4 +12,4 @@ invariant-names l = Passed no_owner (name_content (held l.lists).bytes) (with_na
 
 -- and none of the earlier ones that were passed is equal
 abbrev pub invariant-loop-earlier : goal.invariant-loop-earlier
-invariant-loop-earlier l = (listed l.name (map (bytes_in l.run) (drop l.earlier-index l.before)) ≡ listed l.name (map (bytes_in l.run) l.before)) × (l.repeated ≡ None)
+invariant-loop-earlier l = (listed l.name (map (bytes_in l.run) (drop l.earlier-index l.earlier-items)) ≡ listed l.name (map (bytes_in l.run) (take l.place l.names))) × (l.repeated ≡ None)

@@ -1,10 +1,14 @@
-use Rattle.std.proofs.Common.{Some, None, ap, ◌∙◌}
+use Rattle.std.proofs.Common.{◌≡◌, rules, ◌∙◌}
+use Rattle.std.specs.Option.{option_map}
+use borrow.Author.Tests.{tests}
+use Rattle.std.specs.List.{slice_get}
+use Rattle.std.proofs.lemmas.Option.{gets}
+use Rattle.tables.specs.Rows.{import_of}
 use Rattle.tables.specs.Borrowed.{held}
 use Rattle.tables_source.proofs.Answering.{import_answer}
 use Rattle.tables_source.proofs.source.TablesModuleSource.import.Goals as goal
 
-pub returns-in_default : goal.returns-in_default
-returns-in_default c = import_answer (held c.args.self.now.lists) c.args.self.now.opens c.args.i None c.in_default.ensures
-
 pub returns : goal.returns
-returns c = ap (λ x. Some x) c.import.ensures ∙ import_answer (held c.args.self.now.lists) c.args.self.now.opens c.args.i (Some c.in-Some.row) c.in-Some.ensures
+returns c =
+    let told : c.map.result ≡ option_map import_of c.copied.result = search (rules, tests) in
+    told ∙ import_answer (held c.args.self.now.lists) c.args.self.now.opens c.args.i c.copied.result (search (rules, gets))
