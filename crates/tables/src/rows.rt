@@ -1,5 +1,5 @@
-ghost use Rattle.std.specs.Prelude.{◌≡◌, ◌||◌, map, length, nat_le};
-ghost use Rattle.graph.specs.Lookups.{kind_in};
+ghost use Rattle.std.specs.Prelude.{◌≡◌, ◌||◌, map, length, nat_le, is_some};
+ghost use Rattle.graph.specs.Lookups.{kind_in, first_keyed};
 ghost use Rattle.graph.specs.Rules.{owned_refusal, is_es};
 ghost use Rattle.graph.specs.Opening.{falls_behind};
 ghost use Rattle.graph.specs.Soundness.{Rising};
@@ -34,6 +34,15 @@ fn refusal_behind<T: Owned>(
     let unknown = owner >= lists.modules.len() || nameless;
     let es = is_es(kind_at(lists.modules, owner));
     owned_refusal(falls, before.len(), unknown, twice, es)
+}
+
+// Whether a row before this one has its owner and its key.
+fn is_given_twice<T: Owned + Keyed>(row: &T, before: &[T]) -> bool
+    ensures { Rising T.belongs before.now → result ≡ is_some (first_keyed T.belongs T.keyed before.now (T.belongs row.now) (T.keyed row.now)) }
+{
+    let owner = usize::from(row.owner());
+    let key = usize::from(row.key());
+    find_of(before, owner, key).is_some()
 }
 
 impl Row for ModuleRow {
@@ -85,8 +94,13 @@ impl Row for ImportRow {
 
     fn refusal(&self, lists: Lists, before: &[ImportRow]) -> Option<Reason> {
         let nameless = Wanted::from(self.name).is_unknown(lists.names.len());
-        let twice = find_of(before, usize::from(self.owner), usize::from(self.symbol)).is_some();
-        refusal_behind(lists, before, self.owner, nameless, twice)
+        refusal_behind(
+            lists,
+            before,
+            self.owner,
+            nameless,
+            is_given_twice(self, before),
+        )
     }
 }
 
@@ -101,7 +115,12 @@ impl Row for Export {
 
     fn refusal(&self, lists: Lists, before: &[Export]) -> Option<Reason> {
         let nameless = usize::from(self.name) >= lists.names.len();
-        let twice = find_of(before, usize::from(self.owner), usize::from(self.name)).is_some();
-        refusal_behind(lists, before, self.owner, nameless, twice)
+        refusal_behind(
+            lists,
+            before,
+            self.owner,
+            nameless,
+            is_given_twice(self, before),
+        )
     }
 }
