@@ -1,4 +1,3 @@
-pub mod Bytes
 pub mod Finding
 pub mod Keyed
 pub mod Numbering
