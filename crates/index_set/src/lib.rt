@@ -1,6 +1,6 @@
 #![tactic(auto)]
 
-ghost use Rattle.std.specs.Prelude.{◌≡◌, ◌≤◌, true, [], length, ◌≢◌};
+ghost use Rattle.std.specs.Prelude.{◌≡◌, ◌≤◌, true, [], length, take, ◌≢◌};
 ghost use Rattle.index_set.specs.Adding.{Adds, Puts, written};
 ghost use Rattle.index_set.specs.Sameness.{Distinct, FirstSame, OnlyPlace, held};
 
@@ -24,10 +24,11 @@ pub enum Added {
 
 // A set that keeps its elements in the order in which they came, at the front of places that it was lent.
 #[derive(Drop)]
-pub struct IndexSet<'a, T> {
+pub struct IndexSet<'a, T: Eq> {
     places: &'a mut [T],
     len: usize,
     ghost fits: { len ≤ length places.now },
+    ghost distinct: { Distinct T.eq (take len places.now) },
 }
 
 // `lender` says that a set holds on to the places it was lent, so what it writes is the lender's afterwards.
@@ -39,7 +40,6 @@ impl<'a, T: Eq + Copy> IndexSet<'a, T> {
         ensures elements { elements result ≡ [] }
         ensures places { result.places.now ≡ places.old }
         ensures lender { result.places.ghost_name ≡ places.entry.ghost_name }
-        ensures distinct { Distinct T.eq (elements result) }
     {
         IndexSet { places, len: 0 }
     }
@@ -48,7 +48,7 @@ impl<'a, T: Eq + Copy> IndexSet<'a, T> {
     pub fn len(&self) -> usize
         ensures { result ≡ length (elements self.now) }
     {
-        self.len
+        self.elements().len()
     }
 
     // The elements, in the order in which they came.
@@ -61,7 +61,7 @@ impl<'a, T: Eq + Copy> IndexSet<'a, T> {
     // The first place whose element is the same as `x`: the only one, where the elements are distinct.
     pub fn place_of(&self, x: &T) -> Option<usize>
         ensures first { FirstSame T.eq (elements self.now) x.now result }
-        ensures only { Distinct T.eq (elements self.now) → OnlyPlace T.eq (elements self.now) x.now result }
+        ensures only { OnlyPlace T.eq (elements self.now) x.now result }
     {
         find(self.elements(), x)
     }
@@ -73,7 +73,6 @@ impl<'a, T: Eq + Copy> IndexSet<'a, T> {
         ensures lender { self.new.places.ghost_name ≡ self.old.places.ghost_name }
         ensures room { length self.new.places.now ≡ length self.old.places.now }
         ensures holds { (result ≢ Added.Full) → held T.eq x (elements self.new) ≡ true }
-        ensures distinct { Distinct T.eq (elements self.old) → Distinct T.eq (elements self.new) }
     {
         let added = put(self.places, self.len, x);
         if let Added::New(_) = added {
