@@ -11,10 +11,8 @@ use super::records::{Export, Import, Kind};
 pub trait ModuleSource {
     ghost graph: { Self → Graph };
 
-    // The number of modules. Here each implementation shows that its graph is sound.
     fn module_count(&self) -> usize
-        ensures value { result ≡ length (graph self.now).modules }
-        ensures sound { Sound (graph self.now) };
+        ensures { result ≡ length (graph self.now).modules };
 
     fn import_count(&self) -> usize
         ensures { result ≡ length (graph self.now).imports };
@@ -41,4 +39,6 @@ pub trait ModuleSource {
     // The import behind symbol `s` of module `m`.
     fn import_behind(&self, m: usize, s: usize) -> Option<Import>
         ensures { result ≡ import_in (graph self.now).imports m s };
+
+    ghost sound: { (s : Self) → Sound (graph s) };
 }

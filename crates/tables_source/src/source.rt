@@ -1,6 +1,7 @@
 ghost use Rattle.std.specs.Prelude.{◌≡◌, true, is_ok};
 ghost use Rattle.tables.specs.Opening.{opened, graph_of};
 ghost use Rattle.tables.specs.Borrowed.{held};
+ghost use Rattle.tables.proofs.Opened.{graph_sound};
 
 use super::opened::Tables;
 use graph::lookups::{Keyed, Owned, find_of, nth_of};
@@ -40,6 +41,8 @@ impl<'a> Tables<'a> {
 
 impl ModuleSource for Tables<'_> {
     ghost graph = { λ t. graph_of (held t.lists) };
+
+    ghost sound = { λ t. graph_sound (held t.lists) };
 
     fn module_count(&self) -> usize {
         self.lists.modules.len()
