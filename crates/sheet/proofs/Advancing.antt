@@ -2,7 +2,7 @@
 use Rattle.std.proofs.Common.{◌≡◌, ℕ, ◌+◌, ◌-◌, ◌<◌, Bool, false, cond, not, ◌||◌, eqb, leb, List, [], ◌∷◌, ◌++◌, map, length, is_some, Some, None, Ok, Err, Option, Result, sym, refl, ap, ◌∙◌, subst, arith, append_assoc}
 use Rattle.std.specs.List.{AllByRecursion}
 use Rattle.std.proofs.ByRecursion.{All-push, All-weaker}
-use Rattle.std.proofs.lemmas.List.{map_push, length_push, length-map}
+use Rattle.std.proofs.lemmas.List.{map_push, length_push}
 use Rattle.std.proofs.lemmas.List.Folds.{list_any-append}
 use Rattle.std.proofs.lemmas.Bool.Decides.{nat_tests}
 use Rattle.graph.specs.declared.fault.Reason.TheVariants.{OutOfOrder}
@@ -58,9 +58,6 @@ export_twice g m n s (an_import symbol target wanted) = sym (or-false (is_some (
 export_twice g m n s (an_export name symbol) = symbol_push g.exports m name n s
 
 module _ (all : List Placed) (s t : Progress) (place : ℕ) (e : Entry) (behind : Fields) (g : Graph) (standing : Standing all s (field place (Ok e) ∷ fields_left behind) g) (none : entry_refusal g e ≡ None) where
-  modules_count : length g.modules ≡ length s.kinds.items
-  modules_count = sym (ap length standing.counted.kinds ∙ length-map g.modules kind_of)
-
   goes_on : gathered (grown g (latest g) e) (fields_left behind) ≡ gathered no_records all
   goes_on = sym (gathered_on g place e (fields_left behind) none) ∙ standing.on
 

@@ -1,5 +1,5 @@
 -- The fields that are left, behind one more.
-use Rattle.std.proofs.Common.{◌≡◌, ℕ, ◌<◌, ◌≤◌, cond, List, [], ◌∷◌, length, is_ok, Ok, Err, Result, refl, sym, ap, ◌∙◌, arith}
+use Rattle.std.proofs.Common.{◌≡◌, ℕ, ◌<◌, cond, List, [], ◌∷◌, length, is_ok, Ok, Err, Result, refl, sym, ap, ◌∙◌, arith}
 use Rattle.graph.specs.declared.fault.Reason.{Reason}
 use Rattle.graph.specs.Entries.{Entry}
 use Rattle.graph.specs.Opening.{Placed}
@@ -16,9 +16,6 @@ module _ (bytes : List ℕ) (p q : ℕ) (inside : p < length bytes) where
 
   pub readable_last : (r : Reason) → field_at bytes p ≡ Err r → readable (fields_at bytes p) ≡ field p (Err r) ∷ readable (fields_at bytes (length bytes))
   readable_last r read = ap readable (fields_more bytes p inside) ∙ rw (read, fields_done bytes (length bytes) (omega arith)) refl
-
-pub readable_none : (bytes : List ℕ) (p : ℕ) → length bytes ≤ p → readable (fields_at bytes p) ≡ []
-readable_none bytes p past = ap readable (fields_done bytes p past)
 
 -- what is left begins with a field that can be read, or with one that cannot
 module _ (left later : List Placed) (place : ℕ) (content : Result Field Reason) (steps : left ≡ field place (content_of content) ∷ later) where

@@ -1,5 +1,5 @@
 -- The names at the head of a sheet.
-use Rattle.std.proofs.Common.{◌≡◌, ℕ, ◌+◌, ◌<◌, ◌≤◌, Bool, true, false, not, ◌&&◌, ◌||◌, eqb, List, [], ◌∷◌, ◌++◌, map, length, take, Some, Ok, Err, Result, Bor, sym, refl, ap, ◌∙◌, subst, append_assoc, add-one, arith, ◌≢◌, inl, inr}
+use Rattle.std.proofs.Common.{◌≡◌, ℕ, ◌+◌, ◌<◌, ◌≤◌, Bool, true, false, not, ◌&&◌, ◌||◌, eqb, List, [], ◌∷◌, ◌++◌, map, length, take, Some, Ok, Err, Result, Bor, sym, refl, ap, ◌∙◌, subst, append_assoc, add-one, arith, inl, inr}
 use Rattle.std.specs.Str.{bytes_eq}
 use Rattle.std.specs.List.{list_any}
 use Rattle.std.proofs.lemmas.List.{map_push, length_push, length-map}
@@ -13,11 +13,11 @@ use Rattle.graph.specs.Opening.{Placed}
 use Rattle.graph.specs.Rules.{listed, wrong_name}
 use Rattle.graph.proofs.Naming.{wrong_first, wrong_by_first, wrong_by_list, not_wrong}
 use Rattle.sheet.specs.Fields.{fault_at}
-use Rattle.sheet.specs.Borrowed.{entry_of, content_of, is_name}
+use Rattle.sheet.specs.Borrowed.{content_of, is_name}
 use Rattle.sheet.specs.declared.field.Field.{Field}
 use Rattle.sheet.specs.declared.field.Field.TheVariants.{Name, Module, Star, Import, Export}
 use Rattle.sheet.specs.Opening.{gathered, field_refusal}
-use Rattle.sheet.specs.Progressing.{named, AreNames, Head}
+use Rattle.sheet.specs.Progressing.{named, AreNames}
 use Rattle.sheet.proofs.Refusing.{take-length-append}
 use Rattle.sheet.proofs.Stepping.{field, gathered_on, gathered_stop}
 
@@ -91,29 +91,10 @@ module _ (name : List ℕ) (n : ℕ) (left : List Placed) where
 names_length : (fields : List Placed) (names : List (List ℕ)) → AreNames fields names → length fields ≡ length names
 names_length fields names are = simp length-map at (ap length are)
 
--- no field but a name says a name
-only_name : (f : Field) (name : List ℕ) → ((bytes : Bor (List ℕ)) (offset : ℕ) → f ≡ Name bytes offset → ⊥) → entry_of f ≢ a_name name
-only_name (Name bytes offset) name other e = other bytes offset refl
-only_name (Module kind id offset) name other e = absurd cc
-only_name (Star target) name other e = absurd cc
-only_name (Import symbol target wanted) name other e = absurd cc
-only_name (Export n symbol) name other e = absurd cc
-
 module _ {all fields left : List Placed} {count : ℕ} (so : Gone all fields count left) where
   -- the names are the fields at the head
   pub gone_first : take count fields ≡ so.gone
   gone_first = ap (take count) so.split ∙ ap (λ n. take n (so.gone ++ left)) (sym (names_length so.gone so.names so.are ∙ so.counted)) ∙ take-length-append so.gone left
-
-  pub heads_none : left ≡ [] → Head all count left
-  heads_none none = record {
-    names = so.names;
-    counted = so.counted;
-    on = so.on;
-    other = λ x later name is. absurd (cons_none x later (sym is ∙ none));
-  }
-    where
-      cons_none : (x : Placed) (xs : List Placed) → x ∷ xs ≡ [] → ⊥
-      cons_none x xs e = absurd cc
 
   module _ (place : ℕ) (content : Result Field Reason) (later : List Placed) (steps : left ≡ field place (content_of content) ∷ later) where
     on_here : (c : Result Entry Reason) → content_of content ≡ c → gathered (named so.names) (field place c ∷ later) ≡ gathered no_records all
@@ -124,18 +105,6 @@ module _ {all fields left : List Placed} {count : ℕ} (so : Gone all fields cou
 
     pub unread : (reason : Reason) → content ≡ Err reason → gathered no_records all ≡ Err (fault_at reason place)
     unread reason is = refused (Err reason) (ap content_of is) reason refl
-
-    -- behind the names a field stands that is none
-    pub heads : (f : Field) → content ≡ Ok f → ((bytes : Bor (List ℕ)) (offset : ℕ) → f ≡ Name bytes offset → ⊥) → Head all count left
-    heads f is other = record {
-      names = so.names;
-      counted = so.counted;
-      on = so.on;
-      other = λ x rest name first told. let same : entry_of f ≡ a_name name = cc (content_first x rest (sym steps ∙ first), ap content_of is, told) in only_name f name other same;
-    }
-      where
-        content_first : (x : Placed) (rest : List Placed) → field place (content_of content) ∷ later ≡ x ∷ rest → x.content ≡ content_of content
-        content_first x rest e = let first : x ≡ field place (content_of content) = cc in ap (λ (y : Placed). y.content) first
 
     module _ (name : Bor (List ℕ)) (offset : ℕ) (is : content ≡ Ok (Name name offset)) where
       bad_name : wrong_name so.names name.now ≡ true → gathered no_records all ≡ Err (fault_at BadName place)

@@ -1,19 +1,18 @@
 -- Why a record is refused, by what is counted of the records before it.
-use Rattle.std.proofs.Common.{◌≡◌, ℕ, ◌-◌, ◌<◌, Bool, false, eqb, leb, List, [], ◌∷◌, ◌++◌, length, take, None, sym, refl, ap, ◌∙◌, subst, arith}
+use Rattle.std.proofs.Common.{◌≡◌, ℕ, ◌-◌, Bool, eqb, leb, List, [], ◌∷◌, ◌++◌, length, take, sym, refl, ap, ◌∙◌}
 use Rattle.std.specs.List.{slice_get}
-use Rattle.std.proofs.lemmas.Bool.Decides.{nat_tests}
 use Rattle.std.proofs.lemmas.List.{length-map}
 use Rattle.std.proofs.lemmas.Option.{slice_get-map}
 use Rattle.graph.specs.declared.records.Wanted.{Wanted}
 use Rattle.graph.specs.Graphs.{Graph}
-use Rattle.graph.specs.Entries.{Entry, a_star, an_import, an_export}
+use Rattle.graph.specs.Entries.{Entry, an_import, an_export}
 use Rattle.graph.specs.Lookups.{kind_of, kind_in}
 use Rattle.graph.specs.Opening.{Placed, latest}
 use Rattle.graph.specs.Rules.{wants_unknown, given_twice, is_es, owned_refusal}
 use Rattle.sheet.specs.declared.progress.Progress.{Progress}
 use Rattle.sheet.specs.Opening.{entry_refusal}
 use Rattle.sheet.specs.Reading.{fields_left}
-use Rattle.sheet.specs.Progressing.{Counted, Standing, Roomy, clashes, latest_is_es}
+use Rattle.sheet.specs.Progressing.{Counted, Standing, clashes, latest_is_es}
 
 abbrev pub no_module : Progress → Bool
 no_module s = eqb (length s.kinds.items) 0
@@ -38,16 +37,7 @@ pub take-length-append : {A : Type 0} (xs ys : List A) → take (length xs) (xs 
 take-length-append [] ys = refl
 take-length-append (x ∷ xs) ys = ap (λ zs. x ∷ zs) (take-length-append xs ys)
 
-owned_room : (misplaced : Bool) (count : ℕ) (unknown twice es : Bool) → owned_refusal misplaced count unknown twice es ≡ None → count < 1024
-owned_room misplaced count unknown twice es h = grind (arith, nat_tests)
-
 module _ (s : Progress) (e : Entry) where
-  pub star_refusal : (g : Graph) → Counted s g → (target : ℕ) → e ≡ a_star target → owned_refusal (no_module s) s.stars false false (latest_is_es s) ≡ entry_refusal g e
-  star_refusal g counted target is = owned_same s g counted s.stars (length g.stars) counted.stars false false ∙ sym (ap (entry_refusal g) is)
-
-  pub star_room : (target : ℕ) → e ≡ a_star target → owned_refusal (no_module s) s.stars false false (latest_is_es s) ≡ None → Roomy s e
-  star_room target is h = subst (Roomy s) (sym is) (owned_room (no_module s) s.stars false false (latest_is_es s) h)
-
   module _ (unknown twice : Bool) (scanned : twice ≡ clashes e (take s.owned (fields_left s.own))) where
     told_twice : (all left : List Placed) (g : Graph) → Standing all s left g → twice ≡ given_twice g (latest g) e
     told_twice all left g standing = scanned ∙ ap (clashes e) (ap (λ fs. take s.owned fs) standing.split ∙ ap (λ n. take n (standing.own ++ left)) (sym standing.owned) ∙ take-length-append standing.own left) ∙ standing.twice e
@@ -65,9 +55,3 @@ module _ (s : Progress) (e : Entry) where
         ∙ ap (λ b. owned_refusal (eqb (length g.modules) 0) (length g.exports) b twice (is_es (kind_in g.modules (latest g)))) (u ∙ ap (λ n. leb n name) (sym standing.counted.names))
         ∙ ap (λ b. owned_refusal (eqb (length g.modules) 0) (length g.exports) (leb (length g.names) name) b (is_es (kind_in g.modules (latest g)))) (told_twice all left g standing ∙ ap (given_twice g (latest g)) is)
         ∙ sym (ap (entry_refusal g) is)
-
-    pub import_room : (symbol target : ℕ) (wanted : Wanted) → e ≡ an_import symbol target wanted → owned_refusal (no_module s) s.imports unknown twice (latest_is_es s) ≡ None → Roomy s e
-    import_room symbol target wanted is h = subst (Roomy s) (sym is) (owned_room (no_module s) s.imports unknown twice (latest_is_es s) h)
-
-    pub export_room : (name symbol : ℕ) → e ≡ an_export name symbol → owned_refusal (no_module s) s.exports unknown twice (latest_is_es s) ≡ None → Roomy s e
-    export_room name symbol is h = subst (Roomy s) (sym is) (owned_room (no_module s) s.exports unknown twice (latest_is_es s) h)
