@@ -5,6 +5,7 @@ mod checks;
 pub mod field;
 pub mod fields;
 mod names;
+mod payload;
 mod progress;
 pub mod records;
 
