@@ -1,39 +1,17 @@
-use Rattle.std.proofs.Common.{◌≡◌, true, false, take, Ok, Err, refl, sym, ap, ◌∙◌}
+use Rattle.std.proofs.Common.{◌≡◌, true, false, Ok, Err, refl, sym, ap, ◌∙◌}
 use Rattle.std.proofs.lemmas.Bool.{false≢true}
-use Rattle.std.proofs.lemmas.Result.{err_from_is_err_and}
 use Rattle.graph.specs.declared.fault.Reason.TheVariants.{BadName}
 use Rattle.sheet.specs.Fields.{fault_at}
 use Rattle.graph.specs.Graphs.{no_records}
 use Rattle.sheet.specs.Opening.{fields_at, gathered}
 use Rattle.sheet.specs.Reading.{placed_of, fields_left}
-use Rattle.sheet.proofs.Naming.{none_gone, unread, first_refused, limit_refused, repeated_refused, name_passes, name_test, repeated, repeated_on, repeated_here, repeated_none}
+use Rattle.sheet.proofs.Naming.{none_gone, limit_refused, repeated_refused, name_passes, name_test, repeated_on, repeated_here, repeated_none}
 use Rattle.sheet.proofs.Reaching.{gathered_readable}
 use Rattle.sheet.proofs.names.read_names.Goals as goal
 use Rattle.sheet.proofs.names.read_names.Goals.{in-Some+in_ok-name+in_default-2, in-Some+in_ok-name+in-Name+else-is_wrong_first+in-Some-earlier+then-is_name, in_default}
 
 pub names-init : goal.names-init
 names-init c = (none_gone (fields_at c.args.bytes.now 0) (fields_left c.of-all.result) (ap (gathered no_records) c.of-all.ensures ∙ gathered_readable no_records (fields_at c.args.bytes.now 0)), refl, refl)
-
-pub returns-in_err-name : goal.returns-in_err-name
-returns-in_err-name c =
-    let p = err_from_is_err_and c.from_residual.result c.from_residual.ensures.1 in
-    let failed = c.in_err-name.ensures in
-    rw (p.1, p.2) (unread c.names.invariant.0 c.in-Some.next.place c.in-Some.next.content (fields_left c.next.new.self) c.in-Some.ensures.steps _ failed.0 ∙ ap (λ f. Err f) (sym failed.1))
-
-pub returns-then-is_wrong_first : goal.returns-then-is_wrong_first
-returns-then-is_wrong_first c =
-    first_refused c.names.invariant.0 c.in-Some.next.place c.in-Some.next.content (fields_left c.next.new.self) c.in-Some.ensures.steps c.in-Name.name c.in-Name.offset (c.in_ok-name.ensures ∙ ap (λ f. Ok f) c.in-Name.is) (sym c.if-is_wrong_first.ensures)
-    ∙ ap (λ f. Err f) (sym c.fault.ensures)
-
-pub loop-earlier-init : goal.loop-earlier-init
-loop-earlier-init c = (
-  tt,
-  tt,
-  ap (λ t. repeated c.in-Name.name.now (take t.n (fields_left t.iter))) c.into_iter-earlier-iterator.ensures.into_iter_gives
-      ∙ ap (λ n. repeated c.in-Name.name.now (take n (fields_left c.take-earlier-items.result.iter))) c.take-earlier-items.ensures.count
-      ∙ ap (λ s. repeated c.in-Name.name.now (take c.names.count (fields_left s))) c.take-earlier-items.ensures.source,
-  c.names.invariant.2,
-)
 
 pub loop-earlier-preserved : goal.loop-earlier-preserved
 loop-earlier-preserved c = (
