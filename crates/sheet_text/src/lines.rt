@@ -1,3 +1,5 @@
+#![tactic(auto, using(std::proofs::Common::append_assoc))]
+
 ghost use Rattle.std.specs.Prelude.{◌≡◌, ◌++◌, string_bytes, OnOk};
 ghost use Rattle.graph.specs.Entries.{a_name, a_module, a_star, an_import, an_export};
 ghost use Rattle.sheet.specs.Borrowed.{entry_of};
@@ -32,26 +34,20 @@ fn push_heading(
     write!(out, "{sort} {number} of module {owner}: ")
 }
 
-#[tactic(auto, using(std::proofs::Common::append_assoc))]
 fn push_name(out: &mut String, before: &Counts, bytes: &[u8]) -> Result<(), AllocError>
     ensures { OnOk result (string_bytes out.new ≡ string_bytes out.old ++ record_text before.now (a_name bytes.now)) }
 {
-    let number = before.names;
-    write!(out, "name {number}: ")?;
+    write!(out, "name {}: ", before.names)?;
     push_escaped(out, bytes)
 }
 
-#[tactic(auto, using(std::proofs::Common::append_assoc))]
 fn push_module(out: &mut String, before: &Counts, kind: Kind, id: &[u8]) -> Result<(), AllocError>
     ensures { OnOk result (string_bytes out.new ≡ string_bytes out.old ++ record_text before.now (a_module kind id.now)) }
 {
-    let number = before.modules;
-    let kind = kind_name(kind);
-    write!(out, "module {number}, {kind}: ")?;
+    write!(out, "module {}, {}: ", before.modules, kind_name(kind))?;
     push_escaped(out, id)
 }
 
-#[tactic(auto, using(std::proofs::Common::append_assoc))]
 fn push_star(out: &mut String, before: &Counts, target: u16) -> Result<(), AllocError>
     ensures { OnOk result (string_bytes out.new ≡ string_bytes out.old ++ record_text before.now (a_star target)) }
 {
@@ -68,7 +64,6 @@ fn push_wanted(out: &mut String, wanted: Wanted) -> Result<(), AllocError>
     }
 }
 
-#[tactic(auto, using(std::proofs::Common::append_assoc))]
 fn push_import(
     out: &mut String,
     before: &Counts,
@@ -83,7 +78,6 @@ fn push_import(
     write!(out, " of module {target} as symbol {symbol}")
 }
 
-#[tactic(auto, using(std::proofs::Common::append_assoc))]
 fn push_export(out: &mut String, before: &Counts, name: u16, symbol: u16) -> Result<(), AllocError>
     ensures { OnOk result (string_bytes out.new ≡ string_bytes out.old ++ record_text before.now (an_export name symbol)) }
 {
@@ -109,7 +103,6 @@ fn push_record(out: &mut String, before: &Counts, field: Field) -> Result<(), Al
 }
 
 // Writes a record's line behind what `out` has. `before` counts the records before it.
-#[tactic(auto, using(std::proofs::Common::append_assoc))]
 pub fn push_line(out: &mut String, before: &Counts, field: Field) -> Result<(), AllocError>
     ensures { OnOk result (string_bytes out.new ≡ string_bytes out.old ++ line before.now (entry_of field.entry)) }
 {
@@ -128,5 +121,8 @@ pub(crate) fn push_summary(out: &mut String, all: &Counts) -> Result<(), AllocEr
         imports,
         exports,
     } = *all;
-    write!(out, "{names} names, {modules} modules, {stars} star records, {imports} imports, {exports} exports\n")
+    write!(
+        out,
+        "{names} names, {modules} modules, {stars} star records, {imports} imports, {exports} exports\n"
+    )
 }
