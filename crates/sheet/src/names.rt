@@ -5,8 +5,8 @@ ghost use Rattle.sheet.specs.Opening.{fields_at, gathered};
 ghost use Rattle.sheet.specs.Progressing.{Head};
 ghost use Rattle.sheet.specs.Reading.{fields_left};
 
-use super::field::{Field, sheet_fault};
-use super::fields::{FieldAt, Fields};
+use super::field::{Field, FieldAt, sheet_fault};
+use super::fields::Fields;
 use graph::fault::{Fault, Reason};
 use graph::limits::MOST_NAMES;
 use graph::rules::{is_wrong_first, same_bytes};
