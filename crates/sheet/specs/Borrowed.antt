@@ -25,29 +25,22 @@ Begins (Star target) p = Unit {0}
 Begins (Import symbol target wanted) p = Unit {0}
 Begins (Export name symbol) p = Unit {0}
 
--- where these bytes begin in the sheet, or 0 where a field has none
-abbrev pub offset_of : Field → ℕ
-offset_of (Name bytes offset) = offset
-offset_of (Module kind id offset) = offset
-offset_of (Star target) = 0
-offset_of (Import symbol target wanted) = 0
-offset_of (Export name symbol) = 0
-
--- the same, by the place of the payload
-abbrev pub offset_behind : Field → ℕ → ℕ
-offset_behind (Name bytes offset) p = p
-offset_behind (Module kind id offset) p = p + 1
-offset_behind (Star target) p = 0
-offset_behind (Import symbol target wanted) p = 0
-offset_behind (Export name symbol) p = 0
-
--- what was read stands where it says, in a payload that begins at p
+-- where the bytes of what was read begin in the sheet, as it says, or 0 where it has none
 abbrev pub offset_in : Result Field Reason → ℕ
-offset_in (Ok f) = offset_of f
+offset_in (Ok (Name bytes offset)) = offset
+offset_in (Ok (Module kind id offset)) = offset
+offset_in (Ok (Star target)) = 0
+offset_in (Ok (Import symbol target wanted)) = 0
+offset_in (Ok (Export name symbol)) = 0
 offset_in (Err reason) = 0
 
+-- and as it is in a payload that begins at p
 abbrev pub offset_from : Result Field Reason → ℕ → ℕ
-offset_from (Ok f) p = offset_behind f p
+offset_from (Ok (Name bytes offset)) p = p
+offset_from (Ok (Module kind id offset)) p = p + 1
+offset_from (Ok (Star target)) p = 0
+offset_from (Ok (Import symbol target wanted)) p = 0
+offset_from (Ok (Export name symbol)) p = 0
 offset_from (Err reason) p = 0
 
 -- what was read is this name

@@ -20,7 +20,7 @@ use Rattle.graph.proofs.Soundly.{FormedContent}
 use Rattle.sheet.specs.declared.field.Field.{Field}
 use Rattle.sheet.specs.declared.field.Field.TheVariants as field
 use Rattle.sheet.specs.Fields.{two, next_at, payload_at, field_at, content}
-use Rattle.sheet.specs.Borrowed.{entry_of, offset_of, offset_behind}
+use Rattle.sheet.specs.Borrowed.{entry_of, offset_in, offset_from}
 use Rattle.sheet.specs.Opening.{entries, entries_of, fields_from, fields_at}
 use Rattle.sheet.specs.Opening as sheets
 use Rattle.sheet.specs.Reading.{readable}
@@ -113,7 +113,7 @@ module _ (bytes : List ℕ) (h : Held) (left later : List Placed) (so : SoFar by
       few = omega (arith, one, so.few, ap length steps);
     }
 
-  pub step : (f : Field) → left ≡ field_here p (Ok (entry_of f)) ∷ later → offset_of f ≡ offset_behind f (p + 3) → SoFar bytes (added h f) later
+  pub step : (f : Field) → left ≡ field_here p (Ok (entry_of f)) ∷ later → offset_in (Ok f) ≡ offset_from (Ok f) (p + 3) → SoFar bytes (added h f) later
   step (field.Name text offset) steps begins =
       let read = read_here (field.Name text offset) steps in
       let sized = formed (a_name text.now) read in
