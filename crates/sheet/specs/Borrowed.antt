@@ -25,6 +25,24 @@ Begins (Star target) p = Unit {0}
 Begins (Import symbol target wanted) p = Unit {0}
 Begins (Export name symbol) p = Unit {0}
 
+-- where the bytes of what was read begin in the sheet, as it says, or 0 where it has none
+abbrev pub offset_in : Result Field Reason → ℕ
+offset_in (Ok (Name bytes offset)) = offset
+offset_in (Ok (Module kind id offset)) = offset
+offset_in (Ok (Star target)) = 0
+offset_in (Ok (Import symbol target wanted)) = 0
+offset_in (Ok (Export name symbol)) = 0
+offset_in (Err reason) = 0
+
+-- and as it is in a payload that begins at p
+abbrev pub offset_from : Result Field Reason → ℕ → ℕ
+offset_from (Ok (Name bytes offset)) p = p
+offset_from (Ok (Module kind id offset)) p = p + 1
+offset_from (Ok (Star target)) p = 0
+offset_from (Ok (Import symbol target wanted)) p = 0
+offset_from (Ok (Export name symbol)) p = 0
+offset_from (Err reason) p = 0
+
 -- what was read is this name
 abbrev pub is_name : Result Field Reason → List ℕ → Bool
 is_name (Ok (Name bytes offset)) name = bytes_eq name bytes.now

@@ -1,7 +1,7 @@
 -- Going through the fields of a sheet.
 use Rattle.std.specs.Prelude.{cond, List, [], ◌∷◌, is_ok, None}
 use Rattle.graph.specs.Opening.{Placed}
-use Rattle.sheet.specs.declared.fields.FieldAt.{FieldAt}
+use Rattle.sheet.specs.declared.field.FieldAt.{FieldAt}
 use Rattle.sheet.specs.declared.fields.Fields.{Fields}
 use Rattle.sheet.specs.Borrowed.{content_of}
 use Rattle.sheet.specs.Opening.{fields_at}

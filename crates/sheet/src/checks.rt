@@ -11,8 +11,8 @@ ghost use Rattle.sheet.specs.Progressing.{Head, Standing, Counted, clash_content
 ghost use Rattle.sheet.specs.Reading.{placed_of, fields_left};
 ghost use Rattle.graph.specs.Opening.{Placed};
 
-use super::field::Field;
-use super::fields::{FieldAt, Fields};
+use super::field::{Field, FieldAt};
+use super::fields::Fields;
 use super::names::{Names, read_names};
 use super::progress::Progress;
 use arrayvec::ArrayVec;

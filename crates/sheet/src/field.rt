@@ -1,6 +1,6 @@
-ghost use Rattle.std.specs.Prelude.{◌≡◌, ◌+◌, ◌^◌, ◌<◌, ◌≤◌, length, IfOk, Ok, Err, MatchResult};
-ghost use Rattle.sheet.specs.Fields.{two, next_at, content, field_at, fault_at};
-ghost use Rattle.sheet.specs.Borrowed.{entry_of, Begins, content_of};
+ghost use Rattle.std.specs.Prelude.{◌≡◌, ◌+◌, ◌<◌, ◌≤◌, length, Ok, Err, MatchResult};
+ghost use Rattle.sheet.specs.Fields.{two, next_at, field_at, fault_at};
+ghost use Rattle.sheet.specs.Borrowed.{entry_of, Begins, offset_in, offset_from};
 
 use super::payload::Payload;
 use graph::fault::{Fault, Layer, Reason};
@@ -37,6 +37,25 @@ pub enum Field<'a> {
 pub struct Read<'a> {
     pub field: Field<'a>,
     pub next: usize,
+}
+
+// A field of a sheet: where it begins, and what it says or why it cannot be read.
+#[derive(Clone, Copy)]
+pub struct FieldAt<'a> {
+    pub place: usize,
+    pub content: Result<Field<'a>, Reason>,
+    ghost begins: { offset_in content ≡ offset_from content (place + 3) },
+}
+
+impl<'a> FieldAt<'a> {
+    // What the field says, or the fault of a field that cannot be read.
+    pub fn field(self) -> Result<Field<'a>, Fault>
+        ensures { MatchResult result (λ f. self.entry.content ≡ Ok f) (λ e. (self.entry.content ≡ Err e.reason) × (e ≡ fault_at e.reason self.entry.place)) }
+    {
+        let place = self.place;
+        self.content
+            .map_err(|reason| Layer::Sheet.fault(reason, place))
+    }
 }
 
 // The number in the two bytes from `at`, the higher byte first.

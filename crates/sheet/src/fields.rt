@@ -1,29 +1,10 @@
-ghost use Rattle.std.specs.Prelude.{◌≡◌, length, MatchResult, Ok, Err};
+ghost use Rattle.std.specs.Prelude.{◌≡◌};
 ghost use Rattle.std.specs.Iterator.{YieldsFirstBy, item_count};
-ghost use Rattle.sheet.specs.Fields.{fault_at};
 ghost use Rattle.sheet.specs.Opening.{fields_at};
 ghost use Rattle.sheet.specs.Reading.{placed_of, readable, fields_left};
 
-use super::field::{Field, Read, read_field};
-use graph::fault::{Fault, Layer, Reason};
-
-// A field of a sheet: where it begins, and what it says or why it cannot be read.
-#[derive(Clone, Copy)]
-pub struct FieldAt<'a> {
-    pub place: usize,
-    pub content: Result<Field<'a>, Reason>,
-}
-
-impl<'a> FieldAt<'a> {
-    // What the field says, or the fault of a field that cannot be read.
-    pub fn field(self) -> Result<Field<'a>, Fault>
-        ensures { MatchResult result (λ f. self.entry.content ≡ Ok f) (λ e. (self.entry.content ≡ Err e.reason) × (e ≡ fault_at e.reason self.entry.place)) }
-    {
-        let place = self.place;
-        self.content
-            .map_err(|reason| Layer::Sheet.fault(reason, place))
-    }
-}
+use super::field::{FieldAt, Read, read_field};
+use graph::fault::Fault;
 
 // The fields of a sheet from a place on, one by one, up to the first that cannot be read.
 #[derive(Clone, Copy)]

@@ -5,8 +5,8 @@ ghost use Rattle.sheet.specs.Opening.{fields_at, gathered};
 ghost use Rattle.sheet.specs.Progressing.{Head};
 ghost use Rattle.sheet.specs.Reading.{fields_left};
 
-use super::field::Field;
-use super::fields::{FieldAt, Fields};
+use super::field::{Field, FieldAt};
+use super::fields::Fields;
 use graph::fault::{Fault, Layer, Reason};
 use graph::limits::MOST_NAMES;
 use graph::rules::is_wrong_first;

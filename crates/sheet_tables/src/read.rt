@@ -4,7 +4,7 @@ ghost use Rattle.tables.specs.Opening.{opened as tables_opened, graph_of as tabl
 ghost use Rattle.tables.specs.Owned.{kept};
 
 use super::add::add;
-use sheet::field::read_field;
+use sheet::fields::Fields;
 use sheet_source::sheets::Sheet;
 use std::alloc::{AllocError, Global};
 use tables::owned::OwnedLists;
@@ -23,13 +23,11 @@ pub fn tables_of<'a>(heap: Global, sheet: &Sheet<'a>) -> Result<OwnedLists<'a>, 
         imports: Vec::new(heap),
         exports: Vec::new(heap),
     };
-    let mut at = 0;
-    while at < bytes.len() {
-        let Ok(read) = read_field(bytes, at) else {
+    for next in Fields::of(bytes) {
+        let Ok(field) = next.content else {
             return Ok(lists);
         };
-        add(&mut lists, read.field)?;
-        at = read.next;
+        add(&mut lists, field)?;
     }
     Ok(lists)
 }

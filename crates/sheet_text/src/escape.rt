@@ -1,27 +1,7 @@
-ghost use Rattle.std.specs.Prelude.{◌≡◌, ◌<◌, ◌++◌, string_bytes, OnOk};
-ghost use Rattle.std.specs.Char.{digit_char};
-ghost use Rattle.sheet_text.specs.Escaping.{hex_escape, escape_byte, escape};
+ghost use Rattle.std.specs.Prelude.{◌≡◌, ◌++◌, string_bytes, OnOk};
+ghost use Rattle.sheet_text.specs.Escaping.{escape_byte, escape};
 
 use std::alloc::AllocError;
-
-fn hex_digit(digit: u8) -> char
-    requires { digit < 16 }
-    ensures { result ≡ digit_char digit }
-{
-    if digit < 10 {
-        char::from(b'0' + digit)
-    } else {
-        char::from(b'a' + (digit - 10))
-    }
-}
-
-fn push_hex(out: &mut String, byte: u8) -> Result<(), AllocError>
-    ensures { OnOk result (string_bytes out.new ≡ string_bytes out.old ++ hex_escape byte) }
-{
-    out.push_str("\\x")?;
-    out.push(hex_digit(byte / 16))?;
-    out.push(hex_digit(byte % 16))
-}
 
 fn push_byte(out: &mut String, byte: u8) -> Result<(), AllocError>
     ensures { OnOk result (string_bytes out.new ≡ string_bytes out.old ++ escape_byte byte) }
@@ -29,7 +9,7 @@ fn push_byte(out: &mut String, byte: u8) -> Result<(), AllocError>
     match byte {
         b'\\' => out.push_str("\\\\"),
         32..=126 => out.push(char::from(byte)),
-        _ => push_hex(out, byte),
+        _ => write!(out, "\\x{byte:02x}"),
     }
 }
 

@@ -1,4 +1,6 @@
-ghost use Rattle.std.specs.Prelude.{◌≡◌, ◌++◌, IfSome, string_bytes, OnOk};
+#![tactic(auto, using(std::proofs::Common::append_assoc))]
+
+ghost use Rattle.std.specs.Prelude.{◌≡◌, ◌++◌, string_bytes, OnOk};
 ghost use Rattle.graph.specs.Entries.{a_name, a_module, a_star, an_import, an_export};
 ghost use Rattle.sheet.specs.Borrowed.{entry_of};
 ghost use Rattle.sheet_text.specs.Lines.{kind_name, wanted_text, heading, record_text, line, summary};
@@ -8,17 +10,6 @@ use super::escape::push_escaped;
 use graph::records::{Kind, Wanted};
 use sheet::field::Field;
 use std::alloc::AllocError;
-use std::fmt;
-
-// Writes `text` behind what `out` has, which fails for want of memory alone.
-fn push_text<D: fmt::Display + Drop>(out: &mut String, text: D) -> Result<(), AllocError>
-    ensures { OnOk result (IfSome (D.output text) (λ bs. string_bytes out.new ≡ string_bytes out.old ++ bs)) }
-{
-    match write!(out, "{text}") {
-        Ok(()) => Ok(()),
-        Err(_) => Err(AllocError),
-    }
-}
 
 fn kind_name(kind: Kind) -> &'static str
     ensures { result.now ≡ kind_name kind }
@@ -40,23 +31,20 @@ fn push_heading(
     ensures { OnOk result (string_bytes out.new ≡ string_bytes out.old ++ heading before.now sort.now number) }
 {
     let owner = before.modules.saturating_sub(1);
-    push_text(out, format_args!("{sort} {number} of module {owner}: "))
+    write!(out, "{sort} {number} of module {owner}: ")
 }
 
 fn push_name(out: &mut String, before: &Counts, bytes: &[u8]) -> Result<(), AllocError>
     ensures { OnOk result (string_bytes out.new ≡ string_bytes out.old ++ record_text before.now (a_name bytes.now)) }
 {
-    let number = before.names;
-    push_text(out, format_args!("name {number}: "))?;
+    write!(out, "name {}: ", before.names)?;
     push_escaped(out, bytes)
 }
 
 fn push_module(out: &mut String, before: &Counts, kind: Kind, id: &[u8]) -> Result<(), AllocError>
     ensures { OnOk result (string_bytes out.new ≡ string_bytes out.old ++ record_text before.now (a_module kind id.now)) }
 {
-    let number = before.modules;
-    let kind = kind_name(kind);
-    push_text(out, format_args!("module {number}, {kind}: "))?;
+    write!(out, "module {}, {}: ", before.modules, kind_name(kind))?;
     push_escaped(out, id)
 }
 
@@ -64,14 +52,14 @@ fn push_star(out: &mut String, before: &Counts, target: u16) -> Result<(), Alloc
     ensures { OnOk result (string_bytes out.new ≡ string_bytes out.old ++ record_text before.now (a_star target)) }
 {
     push_heading(out, before, "star record", before.stars)?;
-    push_text(out, format_args!("module {target}"))
+    write!(out, "module {target}")
 }
 
 fn push_wanted(out: &mut String, wanted: Wanted) -> Result<(), AllocError>
     ensures { OnOk result (string_bytes out.new ≡ string_bytes out.old ++ wanted_text wanted) }
 {
     match wanted {
-        Wanted::Name(number) => push_text(out, format_args!("name {number}")),
+        Wanted::Name(number) => write!(out, "name {number}"),
         Wanted::Whole => out.push_str("all"),
     }
 }
@@ -87,14 +75,14 @@ fn push_import(
 {
     push_heading(out, before, "import", before.imports)?;
     push_wanted(out, wanted)?;
-    push_text(out, format_args!(" of module {target} as symbol {symbol}"))
+    write!(out, " of module {target} as symbol {symbol}")
 }
 
 fn push_export(out: &mut String, before: &Counts, name: u16, symbol: u16) -> Result<(), AllocError>
     ensures { OnOk result (string_bytes out.new ≡ string_bytes out.old ++ record_text before.now (an_export name symbol)) }
 {
     push_heading(out, before, "export", before.exports)?;
-    push_text(out, format_args!("symbol {symbol} as name {name}"))
+    write!(out, "symbol {symbol} as name {name}")
 }
 
 // Writes a record without its line break.
@@ -133,10 +121,8 @@ pub(crate) fn push_summary(out: &mut String, all: &Counts) -> Result<(), AllocEr
         imports,
         exports,
     } = *all;
-    push_text(
+    write!(
         out,
-        format_args!(
-            "{names} names, {modules} modules, {stars} star records, {imports} imports, {exports} exports\n"
-        ),
+        "{names} names, {modules} modules, {stars} star records, {imports} imports, {exports} exports\n"
     )
 }

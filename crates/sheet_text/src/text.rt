@@ -1,55 +1,20 @@
-ghost use Rattle.std.specs.Prelude.{◌≡◌, ◌-◌, ◌^◌, ◌<◌, ◌++◌, IfOk, string_bytes, OnOk};
-ghost use Rattle.sheet.specs.Borrowed.{entry_of};
+ghost use Rattle.std.specs.Prelude.{◌≡◌, ◌++◌, IfOk, string_bytes, OnOk};
 ghost use Rattle.sheet.specs.Opening.{entries};
-ghost use Rattle.sheet_text.specs.Counting.{no_counts, counts_after, counted, total};
+ghost use Rattle.sheet_text.specs.Counting.{no_counts, counted};
 ghost use Rattle.sheet_text.specs.Lines.{lines, sheet_text};
 
 use super::counts::Counts;
 use super::lines::{push_line, push_summary};
-use sheet::field::{Field, read_field};
+use sheet::records::Records;
 use std::alloc::{AllocError, Global};
-
-// The counts behind one record more.
-fn counts_after(before: Counts, field: Field) -> Counts
-    requires { total before < 2 ^ 64 - 1 }
-    ensures { result ≡ counts_after before (entry_of field.entry) }
-{
-    match field {
-        Field::Name { .. } => Counts {
-            names: before.names + 1,
-            ..before
-        },
-        Field::Module { .. } => Counts {
-            modules: before.modules + 1,
-            ..before
-        },
-        Field::Star { .. } => Counts {
-            stars: before.stars + 1,
-            ..before
-        },
-        Field::Import { .. } => Counts {
-            imports: before.imports + 1,
-            ..before
-        },
-        Field::Export { .. } => Counts {
-            exports: before.exports + 1,
-            ..before
-        },
-    }
-}
 
 // How many records of each sort can be read.
 fn count_records(bytes: &[u8]) -> Counts
     ensures { result ≡ counted no_counts (entries bytes.now) }
 {
     let mut counts = Counts::NONE;
-    let mut at = 0;
-    while at < bytes.len() {
-        let Ok(read) = read_field(bytes, at) else {
-            return counts;
-        };
-        counts = counts_after(counts, read.field);
-        at = read.next;
+    for record in Records::of(bytes) {
+        counts = counts.with(record.field);
     }
     counts
 }
@@ -59,14 +24,9 @@ fn push_lines(out: &mut String, bytes: &[u8]) -> Result<(), AllocError>
     ensures { OnOk result (string_bytes out.new ≡ string_bytes out.old ++ lines no_counts (entries bytes.now)) }
 {
     let mut before = Counts::NONE;
-    let mut at = 0;
-    while at < bytes.len() {
-        let Ok(read) = read_field(bytes, at) else {
-            return Ok(());
-        };
-        push_line(out, &before, read.field)?;
-        before = counts_after(before, read.field);
-        at = read.next;
+    for record in Records::of(bytes) {
+        push_line(out, &before, record.field)?;
+        before = before.with(record.field);
     }
     Ok(())
 }

@@ -1,18 +1,10 @@
-use Rattle.std.proofs.Common.{string_bytes, arith}
-use Rattle.sheet.specs.Borrowed.{entry_of}
-use Rattle.sheet_text.proofs.Remaining.{remaining_more, remaining_unread, remaining_none, total_after, lines_none, lines_more}
+use Rattle.std.proofs.Common.{◌++◌, ap, length, string_bytes, arith}
+use Rattle.sheet_text.specs.Counting.{no_counts}
+use Rattle.sheet_text.specs.Lines.{lines}
+use Rattle.sheet_text.proofs.Left.{all_left, few}
 use Rattle.sheet_text.proofs.text.push_lines.Goals as goal
 
-pub returns-in_default : goal.returns-in_default
-returns-in_default c = lines_none (string_bytes c.loop-at.out) _ c.loop-at.before _ (remaining_unread c.args.bytes.now c.loop-at.at _ c.loop-at-test.true c.in_default.ensures.0) c.loop-at.invariant.0
-
-pub loop-at-preserved : goal.loop-at-preserved
-loop-at-preserved c =
-    let read = c.in-Ok.ensures in
-    simp (c.counts_after-before.ensures, c.in_ok-push_line.ensures) (
-      lines_more (string_bytes c.loop-at.out) _ c.loop-at.before _ _ _ (remaining_more c.args.bytes.now c.loop-at.at _ _ c.loop-at-test.true read.0 read.1) c.loop-at.invariant.0,
-      omega (arith, total_after c.loop-at.before (entry_of c.in-Ok.read.field)),
-    )
-
-pub returns : goal.returns
-returns c = lines_none (string_bytes c.loop-at.out) _ c.loop-at.before _ (remaining_none c.args.bytes.now c.loop-at.at c.loop-at-test.false) c.loop-at.invariant.0
+pub loop-record-init : goal.loop-record-init
+loop-record-init c =
+    let all = all_left c.of-record-items.result _ c.args.bytes.now c.into_iter-record-iterator.ensures.into_iter_gives c.of-record-items.ensures in
+    (tt, tt, ap (λ es. string_bytes c.args.out.now ++ lines no_counts es) all, omega (arith, ap length all, few c.args.bytes.now))

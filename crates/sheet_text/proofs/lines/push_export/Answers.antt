@@ -1,6 +1,0 @@
-use Rattle.std.proofs.Common.{string_bytes}
-use Rattle.sheet_text.proofs.Appending.{behind}
-use Rattle.sheet_text.proofs.lines.push_export.Goals as goal
-
-pub returns : goal.returns
-returns c = behind c.push_text.result (string_bytes c.args.out.now) _ _ _ c.in_ok-push_heading.ensures c.push_text.ensures

@@ -1,6 +1,0 @@
-use Rattle.std.proofs.Common.{string_bytes}
-use Rattle.sheet_text.proofs.Appending.{behind}
-use Rattle.sheet_text.proofs.lines.push_module.Goals as goal
-
-pub returns : goal.returns
-returns c = simp c.kind_name-kind.ensures at (behind c.push_escaped.result (string_bytes c.args.out.now) _ _ _ c.in_ok-push_text.ensures c.push_escaped.ensures)
