@@ -13,19 +13,17 @@ use Rattle.std.proofs.lemmas.Iterator.Adapters.{at_most_from_yields_List}
 use denote.Param.Members.{Mut}
 use Rattle.sheet.specs.declared.records.Record.{Record}
 use Rattle.sheet.specs.declared.records.Records.{Records}
-use Rattle.std.proofs.lemmas.List.{append-nil, length_push, length-map, map_push}
+use Rattle.std.proofs.lemmas.List.{append-nil, length_push, map_push}
 use Rattle.std.proofs.lemmas.Bool.{cond_both}
 use Rattle.graph.specs.declared.fault.Fault.{Fault}
 use Rattle.graph.specs.declared.fault.Layer.TheVariants as layer
 use Rattle.graph.specs.declared.fault.Reason.{Reason}
-use Rattle.graph.specs.declared.records.Kind.{Kind}
-use Rattle.graph.specs.declared.records.Star.{Star}
 use Rattle.graph.specs.declared.records.Import.{Import}
 use Rattle.graph.specs.declared.records.Export.{Export}
 use Rattle.graph.specs.Graphs.{Graph, no_records}
 use Rattle.graph.specs.Entries.{Entry, a_name, a_module, a_star, an_import, an_export, grown}
 use Rattle.graph.specs.Lookups.{kind_of, symbol_in, import_in, export_symbol}
-use Rattle.graph.specs.Rules.{placed, unless, and_then}
+use Rattle.graph.specs.Rules.{unless, and_then}
 use Rattle.graph.specs.Opening.{Placed, latest, content_refusal, with_content, no_name, or_only_default}
 use Rattle.graph.proofs.Pushing.{unless_ok}
 use Rattle.sheet.specs.Fields.{next_at}
@@ -70,7 +68,7 @@ opened_built bytes h e =
     let same : h ≡ all.0 = cc aimed in
     same ∙ gathered_built no_records (fields_at bytes 0) all.0 (ownerless (length bytes) bytes 0) all.1
 
--- a list behind whose elements stands what o holds
+-- ys with what o holds, if it holds something, behind its own
 abbrev pushed : {Y : Type 0} → List Y → Option Y → List Y
 pushed ys None = ys
 pushed ys (Some y) = ys ++ (y ∷ [])
@@ -94,12 +92,12 @@ grows g (an_import symbol target wanted) = record { kinds = refl; stars = refl; 
 grows g (an_export name symbol) = record { kinds = refl; stars = refl; imports = refl; exports = refl }
 
 -- how many modules there are
-modules_grown : (g : Graph) (e : Entry) → length (grown g (latest g) e).modules ≤ 65535 → (length g.modules ≤ length (grown g (latest g) e).modules) × (length (grown g (latest g) e).modules ≡ modules_after (length g.modules) e)
-modules_grown g (a_name bytes) few = (omega arith, refl)
-modules_grown g (a_module k id) few = let more = length_push g.modules (record { kind = k; id = id }) in (omega arith, omega arith)
-modules_grown g (a_star target) few = (omega arith, refl)
-modules_grown g (an_import symbol target wanted) few = (omega arith, refl)
-modules_grown g (an_export name symbol) few = (omega arith, refl)
+modules_grown : (g : Graph) (e : Entry) → length (grown g (latest g) e).modules ≤ 65535 → length (grown g (latest g) e).modules ≡ modules_after (length g.modules) e
+modules_grown g (a_name bytes) few = refl
+modules_grown g (a_module k id) few = omega (arith, length_push g.modules (record { kind = k; id = id }))
+modules_grown g (a_star target) few = refl
+modules_grown g (an_import symbol target wanted) few = refl
+modules_grown g (an_export name symbol) few = refl
 
 no_fewer : (g : Graph) (e : Entry) → length g.modules ≤ length (grown g (latest g) e).modules
 no_fewer g (a_name bytes) = omega arith
@@ -117,9 +115,9 @@ module _ {Y : Type 0} (part : Graph → List Y) (pick : ℕ → Entry → Option
   built_part : (g : Graph) (es : List Entry) → length (built g es).modules ≤ 65535 → part (built g es) ≡ part g ++ filter_map (λ (x : Owned). pick x.owner x.entry) (owned (length g.modules) es)
   built_part g [] few = sym (append-nil (part g))
   built_part g (e ∷ es) few =
-      let bound : length (grown g (latest g) e).modules ≤ 65535 = omega (arith, built_no_fewer (grown g (latest g) e) es) in
+      let few_here : length (grown g (latest g) e).modules ≤ 65535 = omega (arith, built_no_fewer (grown g (latest g) e) es) in
       built_part (grown g (latest g) e) es few
-      ∙ ap (λ n. part (grown g (latest g) e) ++ filter_map (λ (x : Owned). pick x.owner x.entry) (owned n es)) (modules_grown g e bound).1
+      ∙ ap (λ n. part (grown g (latest g) e) ++ filter_map (λ (x : Owned). pick x.owner x.entry) (owned n es)) (modules_grown g e few_here)
       ∙ ap (λ l. l ++ filter_map (λ (x : Owned). pick x.owner x.entry) (owned (modules_after (length g.modules) e) es)) (step g e)
       ∙ pushed_append (part g) (pick (latest g) e) (filter_map (λ (x : Owned). pick x.owner x.entry) (owned (modules_after (length g.modules) e) es))
 
@@ -146,11 +144,11 @@ module _ (bytes : List ℕ) (opens : is_ok (opened bytes) ≡ true) where
   pub exports_are : (graph_of bytes).exports ≡ filter_map (λ (x : Owned). entry_export x.owner x.entry) (owned 0 (entries bytes))
   exports_are = ap (λ (g : Graph). g.exports) sheet_built ∙ built_part (λ g. g.exports) entry_export (λ g e. (grows g e).exports) no_records (entries bytes) few_modules
 
--- a chain that begins with a sheet's records, and goes on with what is picked of each
+-- a chain that goes through a sheet's records, and picks of them what stands in a list of its graph
 pub picked : {Y F : Type 0} (pick : Owned → Option Y) {ys : List Y} {records : List Owned} {s : FilterMap Records F} (g : Mut F (Record × Unit {0}) (Option Y)) {f : F} → ys ≡ filter_map pick records → records_left (filter_map_source s) ≡ records → filter_map_callee s ≡ f → ((x : Record) (r : Option Y) (q : F) → Called g f (x, tt) r q → (q ≡ f) × (r ≡ pick (owned_of x))) → YieldsList (filter_map_steps (YieldsFirstBy owned_of records_left) g) (λ y. y) s ys
 picked pick {records = records} g are left callee picks = rw are (YieldsList-from_filter_map g pick (YieldsList-from_first owned_of records_left records left) callee picks)
 
--- such a chain may be counted
+-- a chain of so few may be counted
 pub may_count : {S A B : Type 0} {steps : S → Option A → S → Type 0} {v : A → B} {s : S} {ys : List B} → YieldsList steps v s ys → length ys ≤ 1024 → EachRunFrom steps s (λ p. Trigger (2 ^ 64) → 0 + p.len < 2 ^ 64)
 unfolding YieldsRun
 may_count {steps = steps} gives few = λ p seen from _. let fits = (at_most_from_yields_List gives few).runs p.items p.gave.0.0 (subst (λ u. Yields steps u p.items p.gave.0.0) from p.gave.0.1) in omega (arith, p.long)

@@ -78,9 +78,9 @@ impl ModuleSource for Sheet<'_> {
     }
 
     fn import_behind(&self, m: usize, s: usize) -> Option<Import> {
-        self.records()
-            .filter_map(Record::import)
-            .find(|import| usize::from(import.owner) == m && usize::from(import.symbol) == s)
+        self.records().filter_map(Record::import).find(|import| {
+            usize::from(import.owner) == m && usize::from(import.symbol) == s
+        })
     }
 }
 
