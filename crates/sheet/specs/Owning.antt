@@ -1,5 +1,9 @@
 -- The records of a sheet, each with its owner.
-use Rattle.std.specs.Prelude.{ℕ, ◌+◌, ◌-◌, List, [], ◌∷◌, min}
+use Rattle.std.specs.Prelude.{ℕ, ◌+◌, ◌-◌, List, [], ◌∷◌, Some, None, Option, min}
+use Rattle.graph.specs.declared.records.Kind.{Kind}
+use Rattle.graph.specs.declared.records.Star.{Star}
+use Rattle.graph.specs.declared.records.Import.{Import}
+use Rattle.graph.specs.declared.records.Export.{Export}
 use Rattle.graph.specs.Entries.{Entry, a_name, a_module, a_star, an_import, an_export}
 use Rattle.sheet.specs.declared.records.Record.{Record}
 use Rattle.sheet.specs.declared.records.Records.{Records}
@@ -31,3 +35,35 @@ owned_of r = record { owner = r.owner; entry = entry_of r.field }
 -- what is left to be gone through
 abbrev pub records_left : Records → List Owned
 records_left s = owned s.modules (entries_of (fields_left s.fields))
+
+-- a module's kind
+abbrev pub entry_kind : Entry → Option Kind
+entry_kind (a_name bytes) = None
+entry_kind (a_module kind id) = Some kind
+entry_kind (a_star target) = None
+entry_kind (an_import symbol target wanted) = None
+entry_kind (an_export name symbol) = None
+
+-- a star record of this owner
+abbrev pub entry_star : ℕ → Entry → Option Star
+entry_star owner (a_name bytes) = None
+entry_star owner (a_module kind id) = None
+entry_star owner (a_star target) = Some (record { owner = owner; target = target })
+entry_star owner (an_import symbol target wanted) = None
+entry_star owner (an_export name symbol) = None
+
+-- an import of this owner
+abbrev pub entry_import : ℕ → Entry → Option Import
+entry_import owner (a_name bytes) = None
+entry_import owner (a_module kind id) = None
+entry_import owner (a_star target) = None
+entry_import owner (an_import symbol target wanted) = Some (record { owner = owner; symbol = symbol; target = target; wanted = wanted })
+entry_import owner (an_export name symbol) = None
+
+-- an export of this owner
+abbrev pub entry_export : ℕ → Entry → Option Export
+entry_export owner (a_name bytes) = None
+entry_export owner (a_module kind id) = None
+entry_export owner (a_star target) = None
+entry_export owner (an_import symbol target wanted) = None
+entry_export owner (an_export name symbol) = Some (record { owner = owner; name = name; symbol = symbol })

@@ -2,16 +2,72 @@ ghost use Rattle.std.specs.Prelude.{◌≡◌};
 ghost use Rattle.std.specs.Iterator.{YieldsFirstBy, item_count};
 ghost use Rattle.sheet.specs.Borrowed.{entry_of};
 ghost use Rattle.sheet.specs.Opening.{entries};
-ghost use Rattle.sheet.specs.Owning.{modules_after, owned, owned_of, records_left};
+ghost use Rattle.sheet.specs.Owning.{modules_after, owned, owned_of, records_left, entry_kind, entry_star, entry_import, entry_export};
 
 use super::field::Field;
 use super::fields::Fields;
+use graph::records::{Export, Import, Kind, Star};
 
 // A record of a sheet, and the module that owns it: the latest one before it.
 #[derive(Clone, Copy)]
 pub struct Record<'a> {
     pub owner: u16,
     pub field: Field<'a>,
+}
+
+impl Record<'_> {
+    // A module's kind.
+    pub fn kind(self) -> Option<Kind>
+        ensures { result ≡ entry_kind (entry_of self.entry.field) }
+    {
+        match self.field {
+            Field::Module { kind, .. } => Some(kind),
+            _ => None,
+        }
+    }
+
+    pub fn star(self) -> Option<Star>
+        ensures { result ≡ entry_star self.entry.owner (entry_of self.entry.field) }
+    {
+        let owner = self.owner;
+        match self.field {
+            Field::Star { target } => Some(Star { owner, target }),
+            _ => None,
+        }
+    }
+
+    pub fn import(self) -> Option<Import>
+        ensures { result ≡ entry_import self.entry.owner (entry_of self.entry.field) }
+    {
+        let owner = self.owner;
+        match self.field {
+            Field::Import {
+                symbol,
+                target,
+                wanted,
+            } => Some(Import {
+                owner,
+                symbol,
+                target,
+                wanted,
+            }),
+            _ => None,
+        }
+    }
+
+    pub fn export(self) -> Option<Export>
+        ensures { result ≡ entry_export self.entry.owner (entry_of self.entry.field) }
+    {
+        let owner = self.owner;
+        match self.field {
+            Field::Export { name, symbol } => Some(Export {
+                owner,
+                name,
+                symbol,
+            }),
+            _ => None,
+        }
+    }
 }
 
 // The records of a sheet in their order, up to the first field that cannot be read.

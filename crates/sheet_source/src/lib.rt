@@ -1,6 +1,5 @@
 // A sheet read in place, as a source of its module graph.
 #![tactic(auto)]
 
-mod search;
 pub mod sheets;
 pub mod source;
