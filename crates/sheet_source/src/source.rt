@@ -1,6 +1,7 @@
 ghost use Rattle.std.specs.Prelude.{◌≡◌, true, is_ok};
 ghost use Rattle.sheet.specs.Opening.{opened, graph_of, entries};
 ghost use Rattle.sheet.specs.Owning.{owned, records_left};
+ghost use Rattle.sheet.proofs.Soundly.{graph_sound};
 
 use super::sheets::Sheet;
 use graph::records::{Export, Import, Kind};
@@ -38,6 +39,8 @@ impl<'a> Sheet<'a> {
 
 impl ModuleSource for Sheet<'_> {
     ghost graph = { λ s. graph_of s.bytes.now };
+
+    ghost sound = { λ s. graph_sound s.bytes.now };
 
     fn module_count(&self) -> usize {
         self.records().filter_map(Record::kind).count()

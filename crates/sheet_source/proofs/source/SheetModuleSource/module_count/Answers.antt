@@ -12,8 +12,5 @@ use Rattle.sheet_source.proofs.source.SheetModuleSource.module_count.Goals as go
 pub count-requires-clause-fits : goal.count-requires-clause-fits
 count-requires-clause-fits c = inr (may_count (picked (λ (x : Owned). entry_kind x.entry) _ (kinds_are c.args.self.now.bytes.now c.args.self.now.opens) (ap records_left c.filter_map.ensures.source ∙ c.records.ensures) c.filter_map.ensures.closure (λ x r q k. search (rules, tests))) (omega (arith, length-map (graph_of c.args.self.now.bytes.now).modules kind_of, (graph_sound c.args.self.now.bytes.now).module_limit)))
 
-pub returns-clause-value : goal.returns-clause-value
-returns-clause-value c = count_from_yields_List c.filter_map.result c.count.result c.count.ensures.ran (picked (λ (x : Owned). entry_kind x.entry) _ (kinds_are c.args.self.now.bytes.now c.args.self.now.opens) (ap records_left c.filter_map.ensures.source ∙ c.records.ensures) c.filter_map.ensures.closure (λ x r q k. search (rules, tests))) ∙ length-map (graph_of c.args.self.now.bytes.now).modules kind_of
-
-pub returns-clause-sound : goal.returns-clause-sound
-returns-clause-sound c = graph_sound c.args.self.now.bytes.now
+pub returns : goal.returns
+returns c = count_from_yields_List c.filter_map.result c.count.result c.count.ensures.ran (picked (λ (x : Owned). entry_kind x.entry) _ (kinds_are c.args.self.now.bytes.now c.args.self.now.opens) (ap records_left c.filter_map.ensures.source ∙ c.records.ensures) c.filter_map.ensures.closure (λ x r q k. search (rules, tests))) ∙ length-map (graph_of c.args.self.now.bytes.now).modules kind_of
