@@ -20,7 +20,7 @@ pub(crate) fn add(lists: &mut OwnedLists, field: Field) -> Result<(), AllocError
             lists.names.push(Span { offset, len })?;
         }
         Field::Module { kind, id, offset } => {
-            let kind = kind.number();
+            let kind = u8::from(kind);
             let len = id.len();
             let id = Span { offset, len };
             lists.modules.push(ModuleRow { kind, id })?;
@@ -33,7 +33,7 @@ pub(crate) fn add(lists: &mut OwnedLists, field: Field) -> Result<(), AllocError
             target,
             wanted,
         } => {
-            let name = wanted.number();
+            let name = u16::from(wanted);
             lists.imports.push(ImportRow {
                 owner,
                 symbol,

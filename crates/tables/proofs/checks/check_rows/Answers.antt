@@ -15,7 +15,3 @@ loop-i-preserved g c =
     let told = told_at g.R.Row.writes (g.R.Row.content h.bytes) (g.R.Row.stage h) c.args.first c.args.rows.now c.loop-i.i c.loop-i-test.true c.index-rows-i.result c.index-rows-i.is c.loop-i.invariant None _ (omega arith) (c.in_default.ensures c.args.first) in
     pass_at g.R.Row.writes (g.R.Row.content h.bytes) (g.R.Row.stage h) c.args.first c.args.rows.now c.loop-i.i c.loop-i-test.true c.index-rows-i.result c.index-rows-i.is c.loop-i.invariant (g.met.R.Row.grows h) told
 
-pub returns : goal.returns
-returns g c =
-    let h = held c.args.lists in
-    pass_all g.R.Row.writes (g.R.Row.content h.bytes) (g.R.Row.stage h) c.args.first c.args.rows.now c.loop-i.i c.loop-i-test.false c.loop-i.invariant

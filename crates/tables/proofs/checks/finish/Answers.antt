@@ -6,9 +6,6 @@ use Rattle.tables.specs.Rows.{star_writes, import_writes}
 use Rattle.tables.proofs.Opened.{nameless, stars_miss, imports_tell}
 use Rattle.tables.proofs.checks.finish.Goals as goal
 
-pub returns-then-is_empty : goal.returns-then-is_empty
-returns-then-is_empty c = λ passed. nameless (held c.args.lists) passed (eqb-true _ 0 (sym c.if-is_empty.ensures)) ∙ ap (λ f. Err f) (sym c.fault.ensures)
-
 pub returns-in_err-check_aims : goal.returns-in_err-check_aims
 returns-in_err-check_aims c = λ passed.
     let some : 0 < length c.args.lists.names.now = omega (arith, eqb-false _ 0 (sym c.if-is_empty.ensures)) in

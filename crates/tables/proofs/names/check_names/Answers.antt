@@ -14,14 +14,6 @@ use Rattle.tables.proofs.names.check_names.Goals.{else-names-test, then-names-te
 pub returns-in_default : goal.returns-in_default
 returns-in_default c = unread (held c.args.lists) c.names.place _ c.names-test.true c.names.invariant.0 _ c.in_default.ensures ∙ ap (λ f. Err f) (sym c.fault.ensures)
 
-pub returns-then-is_wrong_first : goal.returns-then-is_wrong_first
-returns-then-is_wrong_first c = first_refused (held c.args.lists) c.names.place _ c.names-test.true c.names.invariant.0 c.in-Some.ensures.0 (sym c.if-is_wrong_first.ensures) ∙ ap (λ f. Err f) (sym c.fault-then-is_wrong_first.ensures)
-
-pub loop-earlier-preserved : goal.loop-earlier-preserved
-loop-earlier-preserved c =
-    let other = c.if-eq.ensures ∙ ap (bytes_eq c.in-Some.name.now) c.bytes.ensures in
-    (listed_on (bytes_in c.args.lists.bytes.now) c.in-Some.name.now _ c.loop-earlier.earlier-index _ c.loop-earlier-test.true other ∙ c.loop-earlier.invariant.0, c.loop-earlier.invariant.1)
-
 pub returns-then-place-ge-MOST_NAMES : goal.returns-then-place-ge-MOST_NAMES
 returns-then-place-ge-MOST_NAMES c =
     let none = sym c.loop-earlier.invariant.0 ∙ listed_never (bytes_in c.args.lists.bytes.now) c.in-Some.name.now _ c.loop-earlier.earlier-index c.loop-earlier-test.false in
@@ -42,8 +34,3 @@ returns-in-Some-repeated c = elim c.names-test.branch [
       repeated_refused (held c.args.lists) c.names.place _ w.names-test.true c.names.invariant.0 w.in-Some.ensures.0 _ (omega arith) there ∙ ap (λ p. Err (fault_in layer.Tables BadName p)) place ∙ ap (λ f. Err f) (sym c.fault-in-Some-repeated.ensures)
 ]
 
-pub returns-in-None : goal.returns-in-None
-returns-in-None c = elim c.names-test.branch [
-  | else-names-test w ↦ pass_all no_owner (name_content c.args.lists.bytes.now) (with_names (held c.args.lists)) 0 c.args.lists.names.now c.names.place w.names-test.false c.names.invariant.0
-  | then-names-test+in-Some+else-is_wrong_first+then-loop-earlier-test+then-eq w ↦ absurd (never_some _ _ c.in-None.is w.repeated-is)
-]
