@@ -2,12 +2,12 @@
 use std::alloc::Global;
 
 // What a list may be of. The text of an item stands for one value, or for several in a row.
-pub trait Item: Copy {
+pub(crate) trait Item: Copy {
     fn parse(heap: Global, text: &str) -> anyhow::Result<Vec<Self>>;
 }
 
 // The values of all items in a row.
-pub fn read_list<T: Item>(heap: Global, text: &str) -> anyhow::Result<Vec<T>> {
+pub(crate) fn read_list<T: Item>(heap: Global, text: &str) -> anyhow::Result<Vec<T>> {
     let mut list = Vec::new(heap);
     for item in text.split_whitespace() {
         read_item(heap, item, &mut list)?;

@@ -1,0 +1,13 @@
+use crate::items::Item;
+use anyhow::anyhow;
+use std::alloc::Global;
+
+// Bytes, written in hex.
+impl Item for u8 {
+    fn parse(heap: Global, text: &str) -> anyhow::Result<Vec<u8>> {
+        if text.is_empty() {
+            return Err(anyhow!("no bytes"));
+        }
+        Ok(hex::decode(heap, text)?)
+    }
+}

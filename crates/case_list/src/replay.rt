@@ -1,0 +1,27 @@
+use crate::complaint::check_line;
+use crate::subject::Subject;
+use crate::tally::Tally;
+use std::alloc::Global;
+use std::io::{BufRead, Write};
+
+// Replays a list: writes each line that comes out wrong, and what is wrong with it. Lines that begin with `#` are
+// headings.
+pub fn replay<S: Subject, L: BufRead + Drop>(
+    heap: Global,
+    list: L,
+    out: &mut impl Write,
+) -> anyhow::Result<Tally> {
+    let mut tally = Tally::new();
+    for line in list.lines(heap) {
+        let line = line?;
+        if line.as_str().starts_with('#') {
+            continue;
+        }
+        let complaint = check_line::<S>(heap, line.as_str());
+        tally.count(complaint.is_some());
+        if let Some(complaint) = complaint {
+            writeln!(out, "{line}\n    {complaint}")?;
+        }
+    }
+    Ok(tally)
+}

@@ -1,0 +1,51 @@
+use crate::items::read_list;
+use anyhow::anyhow;
+use graph::fault::Fault;
+use std::alloc::Global;
+use tables::owned::OwnedLists;
+
+// What the subjects of a list are.
+pub trait Subject {
+    // Opens what the text of a subject says, if it can be read.
+    fn open(heap: Global, text: &str) -> anyhow::Result<Result<(), Fault>>;
+}
+
+// A sheet.
+pub struct SheetAlone;
+
+impl Subject for SheetAlone {
+    fn open(heap: Global, text: &str) -> anyhow::Result<Result<(), Fault>> {
+        let sheet = read_list::<u8>(heap, text)?;
+        Ok(sheet::open(sheet.as_slice()))
+    }
+}
+
+// A sheet, or `tables` and then tables.
+pub struct SheetOrTables;
+
+impl Subject for SheetOrTables {
+    fn open(heap: Global, text: &str) -> anyhow::Result<Result<(), Fault>> {
+        match text.strip_prefix("tables") {
+            Some(text) => open_tables(heap, text),
+            None => SheetAlone::open(heap, text),
+        }
+    }
+}
+
+// Opens `RUN | NAMES | MODULES | STARS | IMPORTS | EXPORTS`, if it can be read.
+fn open_tables(heap: Global, text: &str) -> anyhow::Result<Result<(), Fault>> {
+    let parts = text.split('|').collect::<Vec<&str>>(heap)?;
+    let [run, names, modules, stars, imports, exports] = parts.as_slice() else {
+        return Err(anyhow!("not six parts"));
+    };
+    let run = read_list::<u8>(heap, run)?;
+    let lists = OwnedLists {
+        bytes: run.as_slice(),
+        names: read_list(heap, names)?,
+        modules: read_list(heap, modules)?,
+        stars: read_list(heap, stars)?,
+        imports: read_list(heap, imports)?,
+        exports: read_list(heap, exports)?,
+    };
+    Ok(tables::open(lists.lend()))
+}
