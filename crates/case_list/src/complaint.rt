@@ -1,3 +1,6 @@
+ghost use Rattle.std.specs.Prelude.{IfNone};
+ghost use Rattle.case_list.specs.Replaying.{IsRight};
+
 use crate::answer::Answer;
 use crate::case::Case;
 use crate::subject::Subject;
@@ -21,7 +24,9 @@ impl fmt::Display for Complaint {
 }
 
 // What is wrong with a line, if anything is.
-pub(crate) fn check_line<S: Subject>(heap: Global, line: &str) -> Option<Complaint> {
+pub(crate) fn check_line<S: Subject>(heap: Global, line: &str) -> Option<Complaint>
+    ensures { IfNone result (IsRight S.gives line.now) }
+{
     match Case::parse(line).and_then(|case| case.mismatch::<S>(heap)) {
         Ok(answer) => answer.map(Complaint::Came),
         Err(trouble) => Some(Complaint::Unreadable(trouble)),

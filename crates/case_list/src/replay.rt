@@ -1,3 +1,7 @@
+ghost use Rattle.std.specs.Prelude.{IfOk, IfSome};
+ghost use Rattle.std.specs.Str.Lines.{lines};
+ghost use Rattle.case_list.specs.Tallies.{Counts};
+
 use crate::complaint::check_line;
 use crate::subject::Subject;
 use crate::tally::Tally;
@@ -10,7 +14,9 @@ pub fn replay<S: Subject, L: BufRead + Drop>(
     heap: Global,
     list: L,
     out: &mut impl Write,
-) -> anyhow::Result<Tally> {
+) -> anyhow::Result<Tally>
+    ensures { IfOk result (λ tally. IfSome (L.remaining list) (λ bytes. Counts S.gives (lines bytes) tally)) }
+{
     let mut tally = Tally::new();
     for line in list.lines(heap) {
         let line = line?;

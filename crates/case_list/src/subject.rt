@@ -1,3 +1,6 @@
+ghost use Rattle.std.specs.Prelude.{ℕ, List, Result, IfOk, ⊤};
+ghost use Rattle.graph.specs.declared.fault.Fault.{Fault};
+
 use crate::items::read_list;
 use anyhow::anyhow;
 use graph::fault::Fault;
@@ -6,14 +9,20 @@ use tables::owned::OwnedLists;
 
 // What the subjects of a list are.
 pub trait Subject {
+    // What opening the text of a subject may give.
+    ghost gives: { List ℕ → Result Unit Fault → Type 0 };
+
     // Opens what the text of a subject says, if it can be read.
-    fn open(heap: Global, text: &str) -> anyhow::Result<Result<(), Fault>>;
+    fn open(heap: Global, text: &str) -> anyhow::Result<Result<(), Fault>>
+        ensures { IfOk result (gives text.now) };
 }
 
 // A sheet.
 pub struct SheetAlone;
 
 impl Subject for SheetAlone {
+    ghost gives = { λ _ _. ⊤ };
+
     fn open(heap: Global, text: &str) -> anyhow::Result<Result<(), Fault>> {
         let sheet = read_list::<u8>(heap, text)?;
         Ok(sheet::open(sheet.as_slice()))
@@ -24,6 +33,8 @@ impl Subject for SheetAlone {
 pub struct SheetOrTables;
 
 impl Subject for SheetOrTables {
+    ghost gives = { λ _ _. ⊤ };
+
     fn open(heap: Global, text: &str) -> anyhow::Result<Result<(), Fault>> {
         match text.strip_prefix("tables") {
             Some(text) => open_tables(heap, text),
