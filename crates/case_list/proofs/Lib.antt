@@ -1,2 +1,3 @@
+pub mod ItemReading
 pub mod Lines
 pub mod Tallying

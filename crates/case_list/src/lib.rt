@@ -7,6 +7,7 @@ mod bytes;
 mod case;
 mod complaint;
 mod items;
+mod parts;
 mod records;
 pub mod replay;
 pub mod subject;

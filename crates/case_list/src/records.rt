@@ -1,78 +1,95 @@
 // The records of tables, each written as its numbers with `:` between them.
+ghost use Rattle.case_list.specs.Reading.{SpellsSpan, SpellsModule, SpellsStar, SpellsImport, SpellsExport};
+
 use crate::items::Item;
+use crate::parts::parts_between;
 use anyhow::anyhow;
 use graph::records::{Export, Star};
 use std::alloc::Global;
-use std::error::Error;
-use std::str::FromStr;
 use tables::lists::{ImportRow, ModuleRow, Span};
 
 impl Item for Span {
+    ghost spells = { SpellsSpan };
+
     fn parse(heap: Global, text: &str) -> anyhow::Result<Vec<Span>> {
-        let [offset, len] = read_numbers::<usize, 2>(text)?;
-        let name = Span { offset, len };
+        let parts = parts_between(heap, text, ':')?;
+        let [offset, len] = parts.as_slice() else {
+            return Err(anyhow!("not two numbers"));
+        };
+        let name = Span {
+            offset: offset.parse()?,
+            len: len.parse()?,
+        };
         Ok(vec![in heap; name]?)
     }
 }
 
 impl Item for ModuleRow {
+    ghost spells = { SpellsModule };
+
     fn parse(heap: Global, text: &str) -> anyhow::Result<Vec<ModuleRow>> {
-        let [kind, offset, len] = read_numbers::<usize, 3>(text)?;
-        let kind = u8::try_from(kind)?;
-        let id = Span { offset, len };
-        let module = ModuleRow { kind, id };
+        let parts = parts_between(heap, text, ':')?;
+        let [kind, offset, len] = parts.as_slice() else {
+            return Err(anyhow!("not three numbers"));
+        };
+        let module = ModuleRow {
+            kind: kind.parse()?,
+            id: Span {
+                offset: offset.parse()?,
+                len: len.parse()?,
+            },
+        };
         Ok(vec![in heap; module]?)
     }
 }
 
 impl Item for Star {
+    ghost spells = { SpellsStar };
+
     fn parse(heap: Global, text: &str) -> anyhow::Result<Vec<Star>> {
-        let [owner, target] = read_numbers::<u16, 2>(text)?;
-        let star = Star { owner, target };
+        let parts = parts_between(heap, text, ':')?;
+        let [owner, target] = parts.as_slice() else {
+            return Err(anyhow!("not two numbers"));
+        };
+        let star = Star {
+            owner: owner.parse()?,
+            target: target.parse()?,
+        };
         Ok(vec![in heap; star]?)
     }
 }
 
 impl Item for ImportRow {
+    ghost spells = { SpellsImport };
+
     fn parse(heap: Global, text: &str) -> anyhow::Result<Vec<ImportRow>> {
-        let [owner, symbol, target, name] = read_numbers::<u16, 4>(text)?;
+        let parts = parts_between(heap, text, ':')?;
+        let [owner, symbol, target, name] = parts.as_slice() else {
+            return Err(anyhow!("not four numbers"));
+        };
         let import = ImportRow {
-            owner,
-            symbol,
-            target,
-            name,
+            owner: owner.parse()?,
+            symbol: symbol.parse()?,
+            target: target.parse()?,
+            name: name.parse()?,
         };
         Ok(vec![in heap; import]?)
     }
 }
 
 impl Item for Export {
+    ghost spells = { SpellsExport };
+
     fn parse(heap: Global, text: &str) -> anyhow::Result<Vec<Export>> {
-        let [owner, name, symbol] = read_numbers::<u16, 3>(text)?;
+        let parts = parts_between(heap, text, ':')?;
+        let [owner, name, symbol] = parts.as_slice() else {
+            return Err(anyhow!("not three numbers"));
+        };
         let export = Export {
-            owner,
-            name,
-            symbol,
+            owner: owner.parse()?,
+            name: name.parse()?,
+            symbol: symbol.parse()?,
         };
         Ok(vec![in heap; export]?)
-    }
-}
-
-// The N numbers of a record.
-fn read_numbers<T: FromStr + Default + Copy, const N: usize>(text: &str) -> anyhow::Result<[T; N]>
-where
-    T::Err: Error,
-{
-    let mut numbers = [T::default(); N];
-    let mut parts = text.split(':');
-    for number in numbers.iter_mut() {
-        let Some(part) = parts.next() else {
-            return Err(anyhow!("too few numbers"));
-        };
-        *number = part.parse()?;
-    }
-    match parts.next() {
-        None => Ok(numbers),
-        Some(_) => Err(anyhow!("too many numbers")),
     }
 }

@@ -1,7 +1,9 @@
-ghost use Rattle.std.specs.Prelude.{ℕ, List, Result, IfOk, ⊤};
+ghost use Rattle.std.specs.Prelude.{ℕ, List, Result, IfOk};
 ghost use Rattle.graph.specs.declared.fault.Fault.{Fault};
+ghost use Rattle.case_list.specs.Subjects.{SheetGives, TablesGive, SheetOrTablesGive};
 
 use crate::items::read_list;
+use crate::parts::parts_between;
 use anyhow::anyhow;
 use graph::fault::Fault;
 use std::alloc::Global;
@@ -21,7 +23,7 @@ pub trait Subject {
 pub struct SheetAlone;
 
 impl Subject for SheetAlone {
-    ghost gives = { λ _ _. ⊤ };
+    ghost gives = { SheetGives };
 
     fn open(heap: Global, text: &str) -> anyhow::Result<Result<(), Fault>> {
         let sheet = read_list::<u8>(heap, text)?;
@@ -33,7 +35,7 @@ impl Subject for SheetAlone {
 pub struct SheetOrTables;
 
 impl Subject for SheetOrTables {
-    ghost gives = { λ _ _. ⊤ };
+    ghost gives = { SheetOrTablesGive };
 
     fn open(heap: Global, text: &str) -> anyhow::Result<Result<(), Fault>> {
         match text.strip_prefix("tables") {
@@ -44,14 +46,16 @@ impl Subject for SheetOrTables {
 }
 
 // Opens `RUN | NAMES | MODULES | STARS | IMPORTS | EXPORTS`, if it can be read.
-fn open_tables(heap: Global, text: &str) -> anyhow::Result<Result<(), Fault>> {
-    let parts = text.split('|').collect::<Vec<&str>>(heap)?;
+fn open_tables(heap: Global, text: &str) -> anyhow::Result<Result<(), Fault>>
+    ensures { IfOk result (TablesGive text.now) }
+{
+    let parts = parts_between(heap, text, '|')?;
     let [run, names, modules, stars, imports, exports] = parts.as_slice() else {
         return Err(anyhow!("not six parts"));
     };
-    let run = read_list::<u8>(heap, run)?;
+    let bytes = read_list::<u8>(heap, run)?;
     let lists = OwnedLists {
-        bytes: run.as_slice(),
+        bytes: bytes.as_slice(),
         names: read_list(heap, names)?,
         modules: read_list(heap, modules)?,
         stars: read_list(heap, stars)?,
