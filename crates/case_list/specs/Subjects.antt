@@ -24,12 +24,16 @@ PartsSpell (run ∷ names ∷ modules ∷ stars ∷ imports ∷ exports ∷ []) 
     IsList SpellsBytes run lists.bytes × IsList SpellsSpan names lists.names × IsList SpellsModule modules lists.modules × IsList SpellsStar stars lists.stars × IsList SpellsImport imports lists.imports × IsList SpellsExport exports lists.exports
 PartsSpell _ lists = ⊥
 
--- the text spells tables, with `|` between the parts, and opening them gives this
-pub record TablesGive (text : List ℕ) (answer : Result Unit Fault) : Type 0 where
+-- these parts spell tables, and opening them gives this
+pub record PartsGive (parts : List (List ℕ)) (answer : Result Unit Fault) : Type 0 where
   pub lists : Held
-  pub spelled : PartsSpell (slice_split (λ b. b == 124) text) lists
+  pub spelled : PartsSpell parts lists
   pub told : Tells (tables_opening.opened lists) answer
+
+-- the parts of a text of tables, with `|` between them
+abbrev pub table_parts : List ℕ → List (List ℕ)
+table_parts text = slice_split (λ b. b == 124) text
 
 -- behind `tables` the text spells tables, and else a sheet
 abbrev pub SheetOrTablesGive : List ℕ → Result Unit Fault → Type 0
-SheetOrTablesGive text answer = MatchBool (starts_with nat_eq text (codes "tables")) (TablesGive (drop 6 text) answer) (SheetGives text answer)
+SheetOrTablesGive text answer = MatchBool (starts_with nat_eq text (codes "tables")) (PartsGive (table_parts (drop 6 text)) answer) (SheetGives text answer)

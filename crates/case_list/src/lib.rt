@@ -11,4 +11,5 @@ mod parts;
 mod records;
 pub mod replay;
 pub mod subject;
+mod table_parts;
 pub mod tally;

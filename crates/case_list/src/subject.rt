@@ -1,13 +1,11 @@
 ghost use Rattle.std.specs.Prelude.{ℕ, List, Result, IfOk};
 ghost use Rattle.graph.specs.declared.fault.Fault.{Fault};
-ghost use Rattle.case_list.specs.Subjects.{SheetGives, TablesGive, SheetOrTablesGive};
+ghost use Rattle.case_list.specs.Subjects.{SheetGives, SheetOrTablesGive};
 
 use crate::items::read_list;
-use crate::parts::parts_between;
-use anyhow::anyhow;
+use crate::table_parts::TableParts;
 use graph::fault::Fault;
 use std::alloc::Global;
-use tables::owned::OwnedLists;
 
 // What the subjects of a list are.
 pub trait Subject {
@@ -39,28 +37,8 @@ impl Subject for SheetOrTables {
 
     fn open(heap: Global, text: &str) -> anyhow::Result<Result<(), Fault>> {
         match text.strip_prefix("tables") {
-            Some(text) => open_tables(heap, text),
+            Some(text) => TableParts::parse(heap, text)?.open(heap),
             None => SheetAlone::open(heap, text),
         }
     }
-}
-
-// Opens `RUN | NAMES | MODULES | STARS | IMPORTS | EXPORTS`, if it can be read.
-fn open_tables(heap: Global, text: &str) -> anyhow::Result<Result<(), Fault>>
-    ensures { IfOk result (TablesGive text.now) }
-{
-    let parts = parts_between(heap, text, '|')?;
-    let [run, names, modules, stars, imports, exports] = parts.as_slice() else {
-        return Err(anyhow!("not six parts"));
-    };
-    let bytes = read_list::<u8>(heap, run)?;
-    let lists = OwnedLists {
-        bytes: bytes.as_slice(),
-        names: read_list(heap, names)?,
-        modules: read_list(heap, modules)?,
-        stars: read_list(heap, stars)?,
-        imports: read_list(heap, imports)?,
-        exports: read_list(heap, exports)?,
-    };
-    Ok(tables::open(lists.lend()))
 }
