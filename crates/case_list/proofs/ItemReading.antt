@@ -1,10 +1,10 @@
 -- The items of a list, and values that are added.
-use Rattle.std.proofs.Common.{◌≡◌, ℕ, zero, suc, ◌+◌, ◌<◌, List, [], ◌∷◌, ◌++◌, length, refl, sym, ap, subst, ◌∙◌, append_assoc, arith}
+use Rattle.std.proofs.Common.{◌≡◌, ℕ, zero, suc, ◌+◌, ◌<◌, List, [], ◌++◌, length, sym, ap, subst, ◌∙◌, arith}
 use Rattle.std.specs.List.{before_first, after_first, position_or_len, repeat}
 use Rattle.std.specs.Char.{is_whitespace, is_not_whitespace}
 use Rattle.std.specs.Str.{NoCharPasses, EmptyOrStartsWithPassing}
 use Rattle.std.proofs.lemmas.Grind.{common_steps}
-use Rattle.case_list.specs.Reading.{is_star, IsNumber, IsItem, IsList, AddsValues, AddsItem}
+use Rattle.case_list.specs.Reading.{is_star, IsNumber, IsList, AddsValues, AddsItem}
 use Rattle.case_list.specs.Reading.IsItem.{once, often}
 use Rattle.case_list.specs.Reading.IsList.{no_items, an_item}
 

@@ -1,6 +1,6 @@
 -- How a list writes sheets and tables.
-use Rattle.std.specs.Prelude.{◌≡◌, ℕ, ◌<◌, Bool, List, [], ◌∷◌, ◌++◌, length, Result, Ok, ◌==◌}
-use Rattle.std.specs.List.{before_first, after_first, position_or_len, repeat, slice_split}
+use Rattle.std.specs.Prelude.{◌≡◌, ℕ, ◌<◌, Bool, List, [], ◌∷◌, ◌++◌, length, Ok, ◌==◌, ◌&&◌, ◌||◌, nat_le}
+use Rattle.std.specs.List.{before_first, after_first, position_or_len, repeat, slice_split, AllPass}
 use Rattle.std.specs.Char.{is_whitespace, is_not_whitespace}
 use Rattle.std.specs.Str.{NoCharPasses, EmptyOrStartsWithPassing}
 use Rattle.std.specs.Str.Parse.{ParsesUnsigned}
@@ -30,9 +30,13 @@ AreNumbers (text ∷ texts) (n ∷ ns) = IsNumber n.0 text n.1 × AreNumbers tex
 abbrev pub Numbers : List ℕ → List (ℕ × ℕ) → Type 0
 Numbers text ns = AreNumbers (slice_split (λ b. b == 58) text) ns
 
+-- whether a byte is a hex digit, with small letters
+abbrev pub is_hex_digit : ℕ → Bool
+is_hex_digit b = (nat_le 48 b && nat_le b 57) || (nat_le 97 b && nat_le b 102)
+
 -- bytes in hex, one at least
 abbrev pub SpellsBytes : List ℕ → List ℕ → Type 0
-SpellsBytes text bytes = (0 < length text) × (decode_of text ≡ Ok bytes)
+SpellsBytes text bytes = (0 < length text) × AllPass is_hex_digit text × (decode_of text ≡ Ok bytes)
 
 -- a record as its numbers
 abbrev pub SpellsSpan : List ℕ → List Span → Type 0
@@ -59,7 +63,7 @@ pub data IsItem {X : Type 0} (Spells : List ℕ → List X → Type 0) (item : L
 pub data IsList {X : Type 0} (Spells : List ℕ → List X → Type 0) : List ℕ → List X → Type 0 where
   no_items : {text : List ℕ} → NoCharPasses is_not_whitespace text → IsList Spells text []
   an_item : {text gap item rest : List ℕ} {values more : List X} → text ≡ gap ++ (item ++ rest) → NoCharPasses is_not_whitespace gap → 0 < length item → NoCharPasses is_whitespace item → (after : List ℕ) × EmptyOrStartsWithPassing is_whitespace rest after
-    → IsItem Spells item values → IsList Spells rest more → IsList Spells text (values ++ more)
+      → IsItem Spells item values → IsList Spells rest more → IsList Spells text (values ++ more)
 
 -- values of the text were added, so often in a row
 pub record AddsValues {X : Type 0} (Spells : List ℕ → List X → Type 0) (text : List ℕ) (count : ℕ) (old new : List X) : Type 0 where

@@ -1,5 +1,5 @@
 -- What replaying a list tells.
-use Rattle.std.specs.Prelude.{◌≡◌, ℕ, ◌+◌, ◌<◌, Bool, true, false, List, [], ◌∷◌, length, Result, ◌==◌, slice_index}
+use Rattle.std.specs.Prelude.{◌≡◌, ℕ, suc, ◌<◌, Bool, true, false, List, [], ◌∷◌, length, Result, ◌==◌, slice_index}
 use Rattle.std.specs.List.{before_first, after_first, position_or_len}
 use Rattle.std.specs.Str.{trim}
 use Rattle.graph.specs.declared.fault.Fault.{Fault}
@@ -32,5 +32,5 @@ pub record IsRight (Gives : List ℕ → Result Unit Fault → Type 0) (line : L
 pub data Tallied (Gives : List ℕ → Result Unit Fault → Type 0) : List (List ℕ) → ℕ → ℕ → Type 0 where
   no_lines : Tallied Gives [] 0 0
   a_heading : {line : List ℕ} {lines : List (List ℕ)} {cases wrong : ℕ} → is_heading line ≡ true → Tallied Gives lines cases wrong → Tallied Gives (line ∷ lines) cases wrong
-  a_right_case : {line : List ℕ} {lines : List (List ℕ)} {cases wrong : ℕ} → is_heading line ≡ false → IsRight Gives line → Tallied Gives lines cases wrong → Tallied Gives (line ∷ lines) (cases + 1) wrong
-  a_wrong_case : {line : List ℕ} {lines : List (List ℕ)} {cases wrong : ℕ} → is_heading line ≡ false → Tallied Gives lines cases wrong → Tallied Gives (line ∷ lines) (cases + 1) (wrong + 1)
+  a_right_case : {line : List ℕ} {lines : List (List ℕ)} {cases wrong : ℕ} → is_heading line ≡ false → IsRight Gives line → Tallied Gives lines cases wrong → Tallied Gives (line ∷ lines) (suc cases) wrong
+  a_wrong_case : {line : List ℕ} {lines : List (List ℕ)} {cases wrong : ℕ} → is_heading line ≡ false → Tallied Gives lines cases wrong → Tallied Gives (line ∷ lines) (suc cases) (suc wrong)

@@ -1,5 +1,5 @@
 -- What opening the subject of a line may give.
-use Rattle.std.specs.Prelude.{◌≡◌, ℕ, List, [], ◌∷◌, Result, Ok, Err, IsOk, MatchResult, MatchBool, drop, ◌==◌, codes, nat_eq}
+use Rattle.std.specs.Prelude.{◌≡◌, ℕ, List, [], ◌∷◌, Result, Err, IsOk, MatchResult, MatchBool, drop, ◌==◌, codes, nat_eq}
 use Rattle.std.specs.List.{slice_split, starts_with}
 use Rattle.graph.specs.declared.fault.Fault.{Fault}
 use Rattle.graph.specs.Graphs.{Graph}

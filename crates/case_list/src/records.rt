@@ -14,7 +14,7 @@ impl Item for Span {
     fn parse(heap: Global, text: &str) -> anyhow::Result<Vec<Span>> {
         let parts = parts_between(heap, text, ':')?;
         let [offset, len] = parts.as_slice() else {
-            return Err(anyhow!("not two numbers"));
+            return Err(wrong_count(parts.len(), 2));
         };
         let name = Span {
             offset: offset.parse()?,
@@ -30,7 +30,7 @@ impl Item for ModuleRow {
     fn parse(heap: Global, text: &str) -> anyhow::Result<Vec<ModuleRow>> {
         let parts = parts_between(heap, text, ':')?;
         let [kind, offset, len] = parts.as_slice() else {
-            return Err(anyhow!("not three numbers"));
+            return Err(wrong_count(parts.len(), 3));
         };
         let module = ModuleRow {
             kind: kind.parse()?,
@@ -49,7 +49,7 @@ impl Item for Star {
     fn parse(heap: Global, text: &str) -> anyhow::Result<Vec<Star>> {
         let parts = parts_between(heap, text, ':')?;
         let [owner, target] = parts.as_slice() else {
-            return Err(anyhow!("not two numbers"));
+            return Err(wrong_count(parts.len(), 2));
         };
         let star = Star {
             owner: owner.parse()?,
@@ -65,7 +65,7 @@ impl Item for ImportRow {
     fn parse(heap: Global, text: &str) -> anyhow::Result<Vec<ImportRow>> {
         let parts = parts_between(heap, text, ':')?;
         let [owner, symbol, target, name] = parts.as_slice() else {
-            return Err(anyhow!("not four numbers"));
+            return Err(wrong_count(parts.len(), 4));
         };
         let import = ImportRow {
             owner: owner.parse()?,
@@ -83,7 +83,7 @@ impl Item for Export {
     fn parse(heap: Global, text: &str) -> anyhow::Result<Vec<Export>> {
         let parts = parts_between(heap, text, ':')?;
         let [owner, name, symbol] = parts.as_slice() else {
-            return Err(anyhow!("not three numbers"));
+            return Err(wrong_count(parts.len(), 3));
         };
         let export = Export {
             owner: owner.parse()?,
@@ -91,5 +91,14 @@ impl Item for Export {
             symbol: symbol.parse()?,
         };
         Ok(vec![in heap; export]?)
+    }
+}
+
+// What is wrong with a record of so many numbers, which should have others.
+fn wrong_count(count: usize, wanted: usize) -> anyhow::Error {
+    if count < wanted {
+        anyhow!("too few numbers")
+    } else {
+        anyhow!("too many numbers")
     }
 }

@@ -1,4 +1,4 @@
-use Rattle.std.proofs.Common.{rules, lit<}
+use Rattle.std.proofs.Common.{lit<}
 use Rattle.std.proofs.lemmas.Result.{on_ok_weaker}
 use Rattle.case_list.proofs.ItemReading.{once_added, often_added}
 use Rattle.case_list.proofs.items.read_item.Goals as goal

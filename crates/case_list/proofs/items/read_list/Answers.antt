@@ -1,5 +1,4 @@
-use Rattle.std.proofs.Common.{rules}
-use Rattle.case_list.proofs.ItemReading.{reading_begins, reading_goes_on, reading_ends}
+use Rattle.case_list.proofs.ItemReading.{reading_goes_on, reading_ends}
 use Rattle.case_list.proofs.items.read_list.Goals as goal
 
 pub loop-item-preserved : goal.loop-item-preserved

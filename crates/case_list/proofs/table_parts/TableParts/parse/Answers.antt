@@ -1,5 +1,4 @@
-use Rattle.std.proofs.Common.{◌≡◌, sym, ap, ◌∙◌, map, rules}
-use Rattle.std.specs.List.{slice_split}
+use Rattle.std.proofs.Common.{sym, ap, ◌∙◌, map}
 use Rattle.case_list.proofs.SixParts.{map_six}
 use Rattle.case_list.proofs.table_parts.TableParts.parse.Goals as goal
 
