@@ -1,6 +1,6 @@
 ghost use Rattle.std.specs.Prelude.{◌≡◌, ◌<◌, length, IfOk, IfNone};
 ghost use Rattle.std.specs.List.{position_or_len};
-ghost use Rattle.case_list.specs.Replaying.{is_equals, subject_of, expected_of, IsRight};
+ghost use Rattle.case_list.specs.Replaying.{is_equals, subject_of, expected_of};
 ghost use Rattle.case_list.specs.Answers.{answer_text};
 
 use crate::answer::Answer;
