@@ -4,7 +4,6 @@
 use sheet::MOST_BYTES;
 use sheet_text::failure::Failure;
 use sheet_text::show::show;
-use std::alloc::Global;
 use std::io;
 use std::io::{ErrorKind, Read};
 use std::process::ExitCode;
@@ -12,16 +11,16 @@ use std::process::ExitCode;
 // One byte more than a sheet may have, so that a longer input is seen to be too long.
 const MOST: u64 = MOST_BYTES as u64 + 1;
 
-fn read_sheet(rt: &HostRuntime, heap: Global) -> io::Result<Vec<u8>> {
-    let mut bytes = Vec::new(heap);
-    rt.stdin().take(MOST).read_to_end(&mut bytes)?;
+fn read_sheet(rt: &(impl Input + AllocGlobal)) -> io::Result<Vec<u8>> {
+    let mut bytes = Vec::new(rt.alloc());
+    rt.reader().take(MOST).read_to_end(&mut bytes)?;
     Ok(bytes)
 }
 
-fn main(rt: HostRuntime) -> io::Result<ExitCode> {
-    let heap = rt.alloc();
-    let bytes = read_sheet(&rt, heap)?;
-    match show(heap, bytes.as_slice()) {
+// Shows the sheet, and gives the status to end with.
+fn run(rt: &(impl Input + AllocGlobal + Print)) -> io::Result<ExitCode> {
+    let bytes = read_sheet(rt)?;
+    match show(rt.alloc(), bytes.as_slice()) {
         Ok(text) => {
             let text = text.as_str();
             print!(rt; "{text}")?;
@@ -33,4 +32,8 @@ fn main(rt: HostRuntime) -> io::Result<ExitCode> {
         }
         Err(Failure::NoMemory) => Err(io::Error::from(ErrorKind::OutOfMemory)),
     }
+}
+
+fn main(rt: HostRuntime) -> io::Result<ExitCode> {
+    run(&rt)
 }

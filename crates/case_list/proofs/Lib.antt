@@ -1,0 +1,4 @@
+pub mod ItemReading
+pub mod Lines
+pub mod SixParts
+pub mod Tallying
