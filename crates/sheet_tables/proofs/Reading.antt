@@ -2,16 +2,18 @@
 use Rattle.std.specs.List.{AllByRecursion}
 use Rattle.graph.specs.declared.fault.Reason.{Reason}
 use Rattle.graph.specs.declared.fault.Reason.TheVariants.{BadLength}
-use Rattle.std.proofs.Common.{◌≡◌, ℕ, zero, suc, ◌+◌, ◌-◌, ◌≤◌, Bool, true, false, cond, ltb, get_or, Err, Result, List, [], ◌∷◌, ◌++◌, map, length, take, drop, is_ok, Ok, unwrap_or, sym, refl, ap, ◌∙◌, subst, arith}
+use Rattle.std.proofs.Common.{◌≡◌, ℕ, zero, suc, ◌+◌, ◌-◌, ◌≤◌, Bool, true, false, cond, ltb, get_or, Err, Result, List, [], ◌∷◌, ◌++◌, map, length, take, drop, is_ok, Ok, unwrap_or, sym, refl, ap, ◌∙◌, subst, arith, inl, inr}
 use Rattle.std.proofs.ByRecursion.{All-push}
 use Rattle.std.proofs.lemmas.List.{map_push, length-map, length_push, length-take, length-drop, drop-drop}
-use Rattle.std.proofs.lemmas.Bool.{cond-true, cond_both, ltb-false, and_from, le-leb}
+use Rattle.std.proofs.lemmas.Bool.{cond-true, cond_both, ltb-false, lt-ltb, cases_lt, false≢true, and_from, le-leb}
+use Rattle.graph.specs.declared.fault.Layer.TheVariants as layer
 use Rattle.graph.specs.declared.records.Kind.{Kind}
 use Rattle.graph.specs.declared.records.Kind.TheVariants as kind
 use Rattle.graph.specs.declared.records.Import.{Import}
 use Rattle.graph.specs.Graphs.{Module, no_records}
 use Rattle.graph.specs.Entries.{Entry, a_name, a_module, an_import, grown}
-use Rattle.graph.specs.Rules.{name_entry, module_entry, of_kind, kind_number, wanted_number, wanted_numbered}
+use Rattle.graph.specs.Opening as opening
+use Rattle.graph.specs.Rules.{unless, name_entry, module_entry, of_kind, kind_number, wanted_number, wanted_numbered}
 use Rattle.graph.specs.Opening.{Placed, latest, or_only_default}
 use Rattle.graph.specs.Soundness.{Sized, Sound}
 use Rattle.graph.proofs.Numbering.{kind_again}
@@ -27,7 +29,7 @@ use Rattle.sheet.specs.Reading.{readable}
 use Rattle.sheet.proofs.Reaching.{entries_readable}
 use Rattle.sheet.proofs.Stepping.{field as field_here}
 use Rattle.sheet.proofs.Soundly.{formed_at, graph_sound}
-use Rattle.sheet_source.proofs.Answering.{built, sheet_built, sheet_short}
+use Rattle.sheet_source.proofs.Answering.{built, sheet_built}
 use Rattle.tables.specs.declared.lists.Span.{Span}
 use Rattle.tables.specs.Spans.{bytes_in}
 use Rattle.tables.specs.Rows.{Held, name_content, module_content, module_of, import_of, meant}
@@ -36,6 +38,13 @@ use Rattle.tables.specs.Opening as tables
 use Rattle.tables.proofs.Complete.{sound_opens}
 use Rattle.sheet_tables.specs.Adding.{last_module, added}
 use Rattle.sheet_tables.proofs.Fields.{Says, SaysContent, field_says, part_own}
+
+-- a sheet that opens is not too long
+sheet_short : (bytes : List ℕ) → is_ok (sheets.opened bytes) ≡ true → length bytes ≤ 60000
+sheet_short bytes opens = elim (cases_lt 60000 (length bytes)) [
+  | inl long ↦ absurd (false≢true (sym (ap is_ok (ap (λ o. unless o (opening.opened layer.Sheet (length bytes) (fields_at bytes 0))) (cond-true _ _ _ (lt-ltb 60000 (length bytes) long)))) ∙ opens))
+  | inr short ↦ short
+]
 
 -- a field that is left stands in the sheet at its place
 abbrev StandsAt : List ℕ → Placed → Type 0

@@ -1,9 +1,9 @@
-use Rattle.std.proofs.Common.{◌<◌, length, Err, sym, refl, ap, ◌∙◌, arith}
+use Rattle.std.proofs.Common.{◌<◌, length, sym, refl, arith}
 use Rattle.std.proofs.lemmas.Result.{err_from_is_err_and}
-use Rattle.std.proofs.lemmas.Bool.{eqb-true, eqb-false}
+use Rattle.std.proofs.lemmas.Bool.{eqb-false}
 use Rattle.tables.specs.Borrowed.{held}
 use Rattle.tables.specs.Rows.{star_writes, import_writes}
-use Rattle.tables.proofs.Opened.{nameless, stars_miss, imports_tell}
+use Rattle.tables.proofs.Opened.{stars_miss, imports_tell}
 use Rattle.tables.proofs.checks.finish.Goals as goal
 
 pub returns-in_err-check_aims : goal.returns-in_err-check_aims

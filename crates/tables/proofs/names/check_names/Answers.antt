@@ -5,9 +5,7 @@ use Rattle.graph.specs.declared.fault.Reason.TheVariants.{BadName}
 use Rattle.graph.specs.Opening.{fault_in}
 use Rattle.tables.specs.Borrowed.{held}
 use Rattle.tables.specs.Spans.{bytes_in}
-use Rattle.tables.specs.Rows.{no_owner, name_content, with_names}
-use Rattle.tables.proofs.Staged.{pass_all}
-use Rattle.tables.proofs.Named.{unread, first_refused, repeated_refused, limit_refused, name_passes, listed_on, listed_here, listed_never, never_some, same_some}
+use Rattle.tables.proofs.Named.{unread, repeated_refused, limit_refused, name_passes, listed_here, listed_never, never_some, same_some}
 use Rattle.tables.proofs.names.check_names.Goals as goal
 use Rattle.tables.proofs.names.check_names.Goals.{else-names-test, then-names-test+in-Some+else-is_wrong_first+then-loop-earlier-test+then-eq}
 
@@ -33,4 +31,3 @@ returns-in-Some-repeated c = elim c.names-test.branch [
       let place = same_some _ _ _ w.repeated-is c.in-Some-repeated.is in
       repeated_refused (held c.args.lists) c.names.place _ w.names-test.true c.names.invariant.0 w.in-Some.ensures.0 _ (omega arith) there ∙ ap (λ p. Err (fault_in layer.Tables BadName p)) place ∙ ap (λ f. Err f) (sym c.fault-in-Some-repeated.ensures)
 ]
-

@@ -1,7 +1,6 @@
 use Rattle.std.proofs.Common.{◌≡◌, rules, ◌∙◌}
 use Rattle.std.specs.Option.{option_map}
 use borrow.Author.Tests.{tests}
-use Rattle.std.specs.List.{slice_get}
 use Rattle.std.proofs.lemmas.Option.{gets}
 use Rattle.tables.specs.Rows.{import_of}
 use Rattle.tables.specs.Borrowed.{held}
