@@ -1,32 +1,34 @@
-ghost use Rattle.std.specs.Prelude.{◌≡◌, true, is_ok};
+ghost use Rattle.std.specs.Prelude.{◌≡◌, Err, MatchResult};
 ghost use Rattle.sheet.specs.Opening.{opened, graph_of, entries};
 ghost use Rattle.sheet.specs.Owning.{owned, records_left};
 ghost use Rattle.sheet.proofs.Soundly.{graph_sound};
 
 use super::sheets::Sheet;
+use graph::fault::Fault;
 use graph::records::{Export, Import, Kind};
 use graph::source::ModuleSource;
 use sheet::open;
 use sheet::records::{Record, Records};
 
-// The bytes themselves where they open, else those of the sheet with the name `default` alone.
-fn bytes_that_open(bytes: &[u8]) -> &[u8]
-    ensures opens { is_ok (opened result.now) ≡ true }
-    ensures same { graph_of result.now ≡ graph_of bytes.now }
-{
-    match open(bytes) {
-        Ok(()) => bytes,
-        Err(_) => b"\x01\x00\x07default",
-    }
-}
-
 impl<'a> Sheet<'a> {
+    // The sheet of these bytes, or its first fault.
+    pub fn open(bytes: &'a [u8]) -> Result<Self, Fault>
+        ensures { MatchResult result (λ sheet. sheet.bytes.now ≡ bytes.now) (λ fault. opened bytes.now ≡ Err fault) }
+    {
+        open(bytes)?;
+        Ok(Sheet { bytes })
+    }
+
     // A sheet for any bytes: where these are refused, one with the name `default` and no module.
     pub fn of(bytes: &'a [u8]) -> Self
         ensures { graph_of result.bytes.now ≡ graph_of bytes.now }
     {
-        let read = bytes_that_open(bytes);
-        Sheet { bytes: read }
+        let Ok(sheet) = Sheet::open(bytes) else {
+            return Sheet {
+                bytes: b"\x01\x00\x07default",
+            };
+        };
+        sheet
     }
 
     // Its records, each with its owner.

@@ -1,9 +1,10 @@
-ghost use Rattle.std.specs.Prelude.{◌≡◌, true, is_ok};
+ghost use Rattle.std.specs.Prelude.{◌≡◌, Err, MatchResult};
 ghost use Rattle.tables.specs.Opening.{opened, graph_of};
 ghost use Rattle.tables.specs.Borrowed.{held};
 ghost use Rattle.tables.proofs.Opened.{graph_sound};
 
 use super::opened::Tables;
+use graph::fault::Fault;
 use graph::lookups::{Keyed, Owned, find_of, nth_of};
 use graph::records::{Export, Import, Kind};
 use graph::source::ModuleSource;
@@ -11,31 +12,35 @@ use tables::kinds::kind_at;
 use tables::lists::{Lists, Span};
 use tables::open;
 
-// The lists themselves where they open, else those with the name `default` alone.
-fn lists_that_open(lists: Lists) -> Lists
-    ensures opens { is_ok (opened (held result)) ≡ true }
-    ensures same { graph_of (held result) ≡ graph_of (held lists.entry) }
-{
-    match open(lists) {
-        Ok(()) => lists,
-        Err(_) => Lists {
-            bytes: b"default",
-            names: &[Span { offset: 0, len: 7 }],
-            modules: &[],
-            stars: &[],
-            imports: &[],
-            exports: &[],
-        },
-    }
-}
+// The lists with the name `default` alone.
+const DEFAULT_ALONE: Lists<'static> = Lists {
+    bytes: b"default",
+    names: &[Span { offset: 0, len: 7 }],
+    modules: &[],
+    stars: &[],
+    imports: &[],
+    exports: &[],
+};
 
 impl<'a> Tables<'a> {
+    // The tables of these lists, or their first fault.
+    pub fn open(lists: Lists<'a>) -> Result<Self, Fault>
+        ensures { MatchResult result (λ tables. held tables.lists ≡ held lists.entry) (λ fault. opened (held lists.entry) ≡ Err fault) }
+    {
+        open(lists)?;
+        Ok(Tables { lists })
+    }
+
     // Tables for any lists: where these are refused, those with the name `default` and no module.
     pub fn of(lists: Lists<'a>) -> Self
         ensures { graph_of (held result.lists) ≡ graph_of (held lists.entry) }
     {
-        let read = lists_that_open(lists);
-        Tables { lists: read }
+        let Ok(tables) = Tables::open(lists) else {
+            return Tables {
+                lists: DEFAULT_ALONE,
+            };
+        };
+        tables
     }
 }
 
