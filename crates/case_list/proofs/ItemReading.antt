@@ -1,5 +1,5 @@
 -- The items of a list, and values that are added.
-use Rattle.std.proofs.Common.{◌≡◌, ℕ, zero, suc, ◌+◌, ◌<◌, List, [], ◌++◌, length, sym, ap, subst, ◌∙◌, arith}
+use Rattle.std.proofs.Common.{◌≡◌, ℕ, zero, suc, ◌+◌, ◌<◌, List, [], ◌++◌, length, ap, subst, ◌∙◌, arith}
 use Rattle.std.specs.List.{before_first, after_first, position_or_len, repeat}
 use Rattle.std.specs.Char.{is_whitespace, is_not_whitespace}
 use Rattle.std.specs.Str.{NoCharPasses, EmptyOrStartsWithPassing}
@@ -32,9 +32,6 @@ module _ {X : Type 0} (Spells : List ℕ → List X → Type 0) where
   -- the list so far is that of the whole text, with the values of what is left
   abbrev pub Reads : List ℕ → List ℕ → List X → Type 0
   Reads text left list = (more : List X) → IsList Spells left more → IsList Spells text (list ++ more)
-
-  pub reading_begins : (text left : List ℕ) (list : List X) → left ≡ text → list ≡ [] → Reads text left list
-  reading_begins text left list e n = λ more is. subst (λ xs. IsList Spells text (xs ++ more)) (sym n) (subst (λ t. IsList Spells t more) e is)
 
   pub reading_ends : (text left : List ℕ) (list : List X) → NoCharPasses is_not_whitespace left → Reads text left list → IsList Spells text list
   reading_ends text left list blank reads = let e : list ++ [] ≡ list = grind (arith, common_steps) in subst (λ xs. IsList Spells text xs) e (reads [] (no_items blank))

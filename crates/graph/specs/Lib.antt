@@ -1,4 +1,5 @@
 pub mod Faults
+pub mod Texts
 pub mod Graphs
 pub mod Lookups
 pub mod Entries

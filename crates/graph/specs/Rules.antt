@@ -1,6 +1,6 @@
 -- The rules behind the refusals that sheets and tables share: each number's case is a test over the graph so far,
 -- the record's owner and the record.
-use Rattle.std.specs.Prelude.{◌≡◌, ℕ, ◌≤◌, Bool, true, false, cond, not, ◌&&◌, ◌||◌, List, [], ◌∷◌, ◌++◌, length, is_some, Some, None, Ok, Err, Option, Result, MatchResult, ◌==◌, nat_le, codes, decimal}
+use Rattle.std.specs.Prelude.{◌≡◌, ℕ, ◌≤◌, Bool, true, false, cond, not, ◌&&◌, ◌||◌, List, [], ◌∷◌, length, is_some, Some, None, Ok, Err, Option, Result, MatchResult, ◌==◌, nat_le}
 use mathlib.Core.List.{Memᴰ}
 use Rattle.std.specs.Str.{bytes_eq}
 use Rattle.graph.specs.declared.records.Kind.{Kind}
@@ -45,10 +45,6 @@ kind_numbered n = cond (n == 0) (Some kind.Es) (cond (n == 1) (Some kind.Externa
 -- the answer is the kind with this number, or an error with the number where no kind has it
 abbrev pub KindNumbered : ℕ → Result Kind UnknownKind → Type 0
 KindNumbered n r = MatchResult r (λ k. kind_numbered n ≡ Some k) (λ e. (kind_numbered n ≡ None) × (e.0 ≡ n))
-
--- the bytes of a number that no kind has, as they are printed
-abbrev pub unknown_kind_text : UnknownKind → List ℕ
-unknown_kind_text e = codes "no kind has number " ++ decimal e.0
 
 -- what an import with this name number wants
 abbrev pub wanted_numbered : ℕ → Wanted

@@ -5,7 +5,7 @@ ghost use Rattle.graph.specs.Soundness.{Rising};
 
 use super::records::{Export, Import, Star};
 
-// A record that belongs to a module.
+// A record that belongs to a module. Its impls are written out: the toolchain takes none from a macro of ours.
 pub trait Owned: Copy {
     ghost belongs: { Self → ℕ };
 

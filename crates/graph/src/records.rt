@@ -1,5 +1,6 @@
 ghost use Rattle.std.specs.Prelude.{◌≡◌, Some};
-ghost use Rattle.graph.specs.Rules.{KindNumbered, kind_number, unknown_kind_text, wanted_numbered, wanted_number};
+ghost use Rattle.graph.specs.Rules.{KindNumbered, kind_number, wanted_numbered, wanted_number};
+ghost use Rattle.graph.specs.Texts.{kind_name, unknown_kind_text, wanted_text};
 
 use std::error::Error;
 use std::fmt;
@@ -11,6 +12,19 @@ pub enum Kind {
     Es,
     External,
     Empty,
+}
+
+// A kind as it is shown.
+impl fmt::Display for Kind {
+    ghost output = { λ kind. Some (kind_name kind) };
+
+    fn fmt<W: fmt::Write>(&self, f: &mut fmt::Formatter<W>) -> fmt::Result {
+        f.write_str(match self {
+            Kind::Es => "ES",
+            Kind::External => "external",
+            Kind::Empty => "empty",
+        })
+    }
 }
 
 // A number that no kind has.
@@ -95,6 +109,18 @@ impl From<Wanted> for u16 {
         match wanted {
             Wanted::Name(number) => number,
             Wanted::Whole => WHOLE_NAMESPACE,
+        }
+    }
+}
+
+// What an import wants, as it is shown: `name` and the number, or `all`.
+impl fmt::Display for Wanted {
+    ghost output = { λ wanted. Some (wanted_text wanted) };
+
+    fn fmt<W: fmt::Write>(&self, f: &mut fmt::Formatter<W>) -> fmt::Result {
+        match self {
+            Wanted::Name(number) => write!(f, "name {number}"),
+            Wanted::Whole => f.write_str("all"),
         }
     }
 }

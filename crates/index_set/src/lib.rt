@@ -11,7 +11,7 @@ pub fn find<T: Eq>(xs: &[T], x: &T) -> Option<usize>
     xs.iter().position(|y| y == x)
 }
 
-// What came of adding an element.
+// What came of adding an element: three answers that callers tell apart, so neither an Option nor a Result.
 #[derive(Clone, Copy, PartialEq, Eq, Debug)]
 pub enum Added {
     // It stands at this place now.
@@ -25,6 +25,7 @@ pub enum Added {
 // A set that keeps its elements in the order in which they came, at the front of places that it was lent.
 #[derive(Drop)]
 pub struct IndexSet<'a, T: Eq> {
+    // lent, since what uses a set may take no memory
     places: &'a mut [T],
     len: usize,
     ghost fits: { len ≤ length places.now },

@@ -3,7 +3,7 @@ use Rattle.std.proofs.Common.{◌≡◌, ℕ, ◌+◌, ◌<◌, ◌≤◌, Bool,
 use Rattle.std.specs.Str.{bytes_eq}
 use Rattle.std.specs.List.{list_any}
 use Rattle.std.proofs.lemmas.List.{map_push, length_push, length-map}
-use Rattle.std.proofs.Math.Seq.{take-nil}
+use Rattle.std.proofs.Math.Seq.{take-nil, take-append_seam}
 use Rattle.std.proofs.lemmas.Bool.{cond-true, cond-false, le-leb, lt-leb, cases_lt}
 use Rattle.graph.specs.declared.fault.Reason.{Reason}
 use Rattle.graph.specs.declared.fault.Reason.TheVariants.{BadName, OverLimit}
@@ -18,7 +18,6 @@ use Rattle.sheet.specs.declared.field.Field.{Field}
 use Rattle.sheet.specs.declared.field.Field.TheVariants.{Name, Module, Star, Import, Export}
 use Rattle.sheet.specs.Opening.{gathered, field_refusal}
 use Rattle.sheet.specs.Progressing.{named, AreNames}
-use Rattle.sheet.proofs.Refusing.{take-length-append}
 use Rattle.sheet.proofs.Stepping.{field, gathered_on, gathered_stop}
 
 -- what a field says is a name, and equal to this one
@@ -94,7 +93,7 @@ names_length fields names are = simp length-map at (ap length are)
 module _ {all fields left : List Placed} {count : ℕ} (so : Gone all fields count left) where
   -- the names are the fields at the head
   pub gone_first : take count fields ≡ so.gone
-  gone_first = ap (take count) so.split ∙ ap (λ n. take n (so.gone ++ left)) (sym (names_length so.gone so.names so.are ∙ so.counted)) ∙ take-length-append so.gone left
+  gone_first = ap (take count) so.split ∙ ap (λ n. take n (so.gone ++ left)) (sym (names_length so.gone so.names so.are ∙ so.counted)) ∙ take-append_seam so.gone left
 
   module _ (place : ℕ) (content : Result Field Reason) (later : List Placed) (steps : left ≡ field place (content_of content) ∷ later) where
     on_here : (c : Result Entry Reason) → content_of content ≡ c → gathered (named so.names) (field place c ∷ later) ≡ gathered no_records all

@@ -1,6 +1,7 @@
 -- Why a record is refused, by what is counted of the records before it.
-use Rattle.std.proofs.Common.{◌≡◌, ℕ, ◌-◌, Bool, eqb, leb, List, [], ◌∷◌, ◌++◌, length, take, sym, refl, ap, ◌∙◌}
+use Rattle.std.proofs.Common.{◌≡◌, ℕ, ◌-◌, Bool, eqb, leb, List, ◌++◌, length, take, sym, ap, ◌∙◌}
 use Rattle.std.specs.List.{slice_get}
+use Rattle.std.proofs.Math.Seq.{take-append_seam}
 use Rattle.std.proofs.lemmas.List.{length-map}
 use Rattle.std.proofs.lemmas.Option.{slice_get-map}
 use Rattle.graph.specs.declared.records.Wanted.{Wanted}
@@ -33,14 +34,10 @@ owned_same s g counted count n e unknown twice =
     ∙ ap (λ k. owned_refusal (eqb (length g.modules) 0) k unknown twice (latest_is_es s)) (sym e)
     ∙ ap (owned_refusal (eqb (length g.modules) 0) n unknown twice) (latest_same s g counted)
 
-pub take-length-append : {A : Type 0} (xs ys : List A) → take (length xs) (xs ++ ys) ≡ xs
-take-length-append [] ys = refl
-take-length-append (x ∷ xs) ys = ap (λ zs. x ∷ zs) (take-length-append xs ys)
-
 module _ (s : Progress) (e : Entry) where
   module _ (unknown twice : Bool) (scanned : twice ≡ clashes e (take s.owned (fields_left s.own))) where
     told_twice : (all left : List Placed) (g : Graph) → Standing all s left g → twice ≡ given_twice g (latest g) e
-    told_twice all left g standing = scanned ∙ ap (clashes e) (ap (λ fs. take s.owned fs) standing.split ∙ ap (λ n. take n (standing.own ++ left)) (sym standing.owned) ∙ take-length-append standing.own left) ∙ standing.twice e
+    told_twice all left g standing = scanned ∙ ap (clashes e) (ap (λ fs. take s.owned fs) standing.split ∙ ap (λ n. take n (standing.own ++ left)) (sym standing.owned) ∙ take-append_seam standing.own left) ∙ standing.twice e
 
     pub import_refusal : (all left : List Placed) (g : Graph) → Standing all s left g → (symbol target : ℕ) (wanted : Wanted) → e ≡ an_import symbol target wanted → unknown ≡ wants_unknown s.names wanted → owned_refusal (no_module s) s.imports unknown twice (latest_is_es s) ≡ entry_refusal g e
     import_refusal all left g standing symbol target wanted is u =

@@ -28,7 +28,8 @@ fn is_name(field: FieldAt, name: &[u8]) -> bool
     }
 }
 
-// Reads the names at the head of a sheet, up to the first field that is no name.
+// Reads the names at the head of a sheet, up to the first field that is no name. The loops end by their label at the
+// first name that is given twice.
 pub fn read_names(bytes: &[u8]) -> Result<Names<'_>, Fault>
     ensures { MatchResult result (λ (h : Names). Head (fields_at bytes.now 0) h.count (fields_left h.behind)) (λ e. gathered no_records (fields_at bytes.now 0) ≡ Err e) }
 {

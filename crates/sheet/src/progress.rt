@@ -12,7 +12,7 @@ pub struct Progress<'a> {
     pub stars: usize,
     pub imports: usize,
     pub exports: usize,
-    // of the modules
+    // of the modules; opening takes no memory from the heap
     pub kinds: ArrayVec<Kind, MOST_MODULES>,
     // the fields behind the latest module, and how many of them were its records
     pub own: Fields<'a>,

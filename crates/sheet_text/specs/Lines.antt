@@ -1,24 +1,10 @@
 -- The lines of a sheet's text.
 use Rattle.std.specs.Prelude.{ℕ, ◌-◌, List, [], ◌∷◌, ◌++◌, codes, decimal}
-use Rattle.graph.specs.declared.records.Kind.{Kind}
-use Rattle.graph.specs.declared.records.Kind.TheVariants.{Es, External, Empty}
-use Rattle.graph.specs.declared.records.Wanted.{Wanted}
-use Rattle.graph.specs.declared.records.Wanted.TheVariants.{Name, Whole}
 use Rattle.graph.specs.Entries.{Entry, a_name, a_module, a_star, an_import, an_export}
+use Rattle.graph.specs.Texts.{kind_name, wanted_text}
 use Rattle.sheet_text.specs.declared.counts.Counts.{Counts}
 use Rattle.sheet_text.specs.Counting.{no_counts, counts_after, counted}
 use Rattle.sheet_text.specs.Escaping.{escape}
-
--- how a kind is written
-abbrev pub kind_name : Kind → List ℕ
-kind_name Es = codes "ES"
-kind_name External = codes "external"
-kind_name Empty = codes "empty"
-
--- what an import takes: a name, or the whole namespace
-abbrev pub wanted_text : Wanted → List ℕ
-wanted_text (Name n) = codes "name " ++ decimal n
-wanted_text Whole = codes "all"
 
 -- how the line of a star record, an import or an export begins. The record belongs to the latest module
 abbrev pub heading : Counts → List ℕ → ℕ → List ℕ

@@ -3,23 +3,13 @@
 ghost use Rattle.std.specs.Prelude.{◌≡◌, ◌++◌, string_bytes, OnOk};
 ghost use Rattle.graph.specs.Entries.{a_name, a_module, a_star, an_import, an_export};
 ghost use Rattle.sheet.specs.Borrowed.{entry_of};
-ghost use Rattle.sheet_text.specs.Lines.{kind_name, wanted_text, heading, record_text, line, summary};
+ghost use Rattle.sheet_text.specs.Lines.{heading, record_text, line, summary};
 
 use super::counts::Counts;
 use super::escape::push_escaped;
 use graph::records::{Kind, Wanted};
 use sheet::field::Field;
 use std::alloc::AllocError;
-
-fn kind_name(kind: Kind) -> &'static str
-    ensures { result.now ≡ kind_name kind }
-{
-    match kind {
-        Kind::Es => "ES",
-        Kind::External => "external",
-        Kind::Empty => "empty",
-    }
-}
 
 // Writes how the line of a star record, an import or an export begins.
 fn push_heading(
@@ -44,7 +34,7 @@ fn push_name(out: &mut String, before: &Counts, bytes: &[u8]) -> Result<(), Allo
 fn push_module(out: &mut String, before: &Counts, kind: Kind, id: &[u8]) -> Result<(), AllocError>
     ensures { OnOk result (string_bytes out.new ≡ string_bytes out.old ++ record_text before.now (a_module kind id.now)) }
 {
-    write!(out, "module {}, {}: ", before.modules, kind_name(kind))?;
+    write!(out, "module {}, {kind}: ", before.modules)?;
     push_escaped(out, id)
 }
 
@@ -53,15 +43,6 @@ fn push_star(out: &mut String, before: &Counts, target: u16) -> Result<(), Alloc
 {
     push_heading(out, before, "star record", before.stars)?;
     write!(out, "module {target}")
-}
-
-fn push_wanted(out: &mut String, wanted: Wanted) -> Result<(), AllocError>
-    ensures { OnOk result (string_bytes out.new ≡ string_bytes out.old ++ wanted_text wanted) }
-{
-    match wanted {
-        Wanted::Name(number) => write!(out, "name {number}"),
-        Wanted::Whole => out.push_str("all"),
-    }
 }
 
 fn push_import(
@@ -74,8 +55,7 @@ fn push_import(
     ensures { OnOk result (string_bytes out.new ≡ string_bytes out.old ++ record_text before.now (an_import symbol target wanted)) }
 {
     push_heading(out, before, "import", before.imports)?;
-    push_wanted(out, wanted)?;
-    write!(out, " of module {target} as symbol {symbol}")
+    write!(out, "{wanted} of module {target} as symbol {symbol}")
 }
 
 fn push_export(out: &mut String, before: &Counts, name: u16, symbol: u16) -> Result<(), AllocError>

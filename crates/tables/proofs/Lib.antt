@@ -1,9 +1,7 @@
-pub mod Clipping
 pub mod Staged
 pub mod Owning
 pub mod Refused
 pub mod Named
-pub mod Targets
 pub mod Opened
 pub mod Meaning
 pub mod Complete

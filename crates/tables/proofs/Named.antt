@@ -70,9 +70,6 @@ module _ (h : Held) (i : ℕ) (d : Span) (inside : i < length h.names) (passed :
 -- going through the earlier names, for one that is equal
 module _ {X : Type 0} (f : X → List ℕ) (name : List ℕ) (xs : List X) (j : ℕ) where
   module _ (d : X) (inside : j < length xs) where
-    pub listed_on : false ≡ bytes_eq name (f (get_or xs j d)) → listed name (map f (drop (j + 1) xs)) ≡ listed name (map f (drop j xs))
-    listed_on e = ap (λ b. b || listed name (map f (drop (j + 1) xs))) e ∙ sym (at_drop_more (λ l. listed name (map f l)) xs j d inside)
-
     pub listed_here : true ≡ bytes_eq name (f (get_or xs j d)) → listed name (map f (drop j xs)) ≡ true
     listed_here e = at_drop_more (λ l. listed name (map f l)) xs j d inside ∙ sym (ap (λ b. b || listed name (map f (drop (j + 1) xs))) e)
 

@@ -1,27 +1,22 @@
 -- Why a record of each list is refused, by what the lists hold.
-use Rattle.std.proofs.Common.{◌≡◌, ℕ, ◌+◌, ◌≤◌, Bool, true, false, cond, ◌||◌, leb, List, [], ◌∷◌, ◌++◌, map, length, is_some, is_err, Some, None, Ok, Err, Option, Result, sym, ap, ◌∙◌, subst, append_assoc}
+use Rattle.std.proofs.Common.{◌≡◌, ℕ, ◌+◌, ◌≤◌, Bool, false, ◌||◌, leb, List, [], ◌∷◌, ◌++◌, map, length, is_some, None, Ok, Option, Result, sym, ap, ◌∙◌, subst, append_assoc}
 use Rattle.std.proofs.lemmas.List.{length-map, append-nil}
-use Rattle.std.proofs.lemmas.Bool.{cond-true, and_from, le-leb}
 use Rattle.graph.proofs.Keyed.{symbol_keyed}
 use Rattle.graph.specs.declared.fault.Layer.TheVariants as layer
 use Rattle.graph.specs.declared.fault.Reason.{Reason}
-use Rattle.graph.specs.declared.fault.Reason.TheVariants.{OverLimit}
-use Rattle.graph.specs.declared.records.Kind.{Kind}
-use Rattle.graph.specs.declared.records.UnknownKind.{UnknownKind}
 use Rattle.graph.specs.declared.records.Star.{Star}
 use Rattle.graph.specs.declared.records.Export.{Export}
 use Rattle.graph.specs.Graphs.{Graph}
 use Rattle.graph.specs.Entries.{Entry}
 use Rattle.graph.specs.Lookups.{first_keyed, star_owner, import_owner, import_symbol, export_owner, export_name, export_symbol, kind_in}
-use Rattle.graph.specs.Rules.{KindNumbered, most_modules, kind_numbered, of_kind, owned_refusal, is_es, wants_unknown, wanted_numbered}
+use Rattle.graph.specs.Rules.{owned_refusal, is_es, wants_unknown, wanted_numbered}
 use Rattle.graph.specs.Opening.{falls_behind, content_refusal, gathered}
 use Rattle.graph.specs.Soundness.{Rising}
 use Rattle.graph.proofs.Pushing.{cond_none, pairwise_push}
 use Rattle.graph.proofs.Soundly.{none_later}
-use Rattle.tables.specs.declared.lists.ModuleRow.{ModuleRow}
 use Rattle.tables.specs.declared.lists.ImportRow.{ImportRow}
-use Rattle.tables.specs.Spans.{inside, bytes_in}
-use Rattle.tables.specs.Rows.{Held, rows_from, star_writes, import_writes, export_writes, star_content, import_content, export_content, module_content, module_of, import_of, with_modules, with_stars, with_imports, with_exports}
+use Rattle.tables.specs.Spans.{bytes_in}
+use Rattle.tables.specs.Rows.{Held, rows_from, star_writes, import_writes, export_writes, star_content, import_content, export_content, module_of, import_of, with_stars, with_imports, with_exports}
 use Rattle.tables.specs.Staging.{Grows, Passed}
 use Rattle.tables.proofs.Staged.{first_passes}
 use Rattle.tables.proofs.Owning.{falls_map, first_map, some_mapped}
@@ -32,12 +27,6 @@ row_owner i = i.owner
 
 abbrev pub row_symbol : ImportRow → ℕ
 row_symbol i = i.symbol
-
--- where none of the records is refused, owners do not fall
--- a number that does not fail to be a kind's
-pub numbered_told : (n : ℕ) (r : Result Kind UnknownKind) → KindNumbered n r → false ≡ is_err r → (k : Kind) × (kind_numbered n ≡ Some k)
-numbered_told n (Ok k) told some = (k, told)
-numbered_told n (Err e) told some = absurd cc
 
 module _ {X : Type 0} (belongs : X → ℕ) (owner : X → Option ℕ) (content : X → Result Entry Reason) (stage : List X → Graph) (grows : Grows owner content stage) (behind : (xs : List X) (x : X) → content_refusal (stage xs) (owner x) (content x) ≡ None → falls_behind belongs xs (belongs x) ≡ false) where
   rises_on : (xs ys : List X) (p : ℕ) (k : Graph) → gathered layer.Tables (stage xs) (rows_from owner content p ys) ≡ Ok k → Rising belongs xs → Rising belongs (xs ++ ys)
@@ -93,12 +82,3 @@ module _ (h : Held) where
         ∙ ap (λ b. owned_refusal (falls_behind export_owner before e.owner) (length before) (leb (length h.modules) e.owner || b) twice (owner_es e.owner)) nameless-is
         ∙ ap (λ b. owned_refusal (falls_behind export_owner before e.owner) (length before) (leb (length h.modules) e.owner || leb (length h.names) e.name) b (owner_es e.owner)) (twice-is up)
         ∙ export_same before e
-
-  -- a module that can be read
-  pub module_refused : (before : List ModuleRow) (m : ModuleRow) (k : Kind) → true ≡ inside h.bytes m.id → 1 ≤ length (bytes_in h.bytes m.id) → length (bytes_in h.bytes m.id) ≤ 64 → kind_numbered m.kind ≡ Some k → content_refusal (with_modules h before) None (module_content h.bytes m) ≡ cond (leb most_modules (length before)) (Some OverLimit) None
-  module_refused before m k within low high is =
-      ap (content_refusal (with_modules h before) None) (
-      cond-true _ _ _ (sym within)
-      ∙ cond-true _ _ _ (and_from _ _ (le-leb 1 _ low) (le-leb _ 64 high))
-      ∙ ap (λ o. of_kind o (bytes_in h.bytes m.id)) is)
-      ∙ ap (λ n. cond (leb most_modules n) (Some OverLimit) None) (length-map before (module_of h.bytes))

@@ -1,6 +1,6 @@
 -- The checks of a list, record by record.
-use Rattle.std.proofs.Common.{◌≡◌, ℕ, ◌+◌, ◌<◌, ◌≤◌, List, [], ◌∷◌, ◌++◌, length, get_or, take, drop, Some, None, Ok, Err, Option, Result, sym, refl, ap, ◌∙◌, subst, append_assoc, arith}
-use Rattle.std.proofs.lemmas.List.{append-nil, take-append-drop, take_all, take_more, drop_more, length-take-le}
+use Rattle.std.proofs.Common.{◌≡◌, ℕ, ◌+◌, ◌<◌, List, [], ◌∷◌, ◌++◌, length, get_or, take, drop, Some, None, Ok, Err, Option, Result, sym, refl, ap, ◌∙◌, subst, append_assoc, arith}
+use Rattle.std.proofs.lemmas.List.{append-nil, take-append-drop, take_more, drop_more, length-take-le}
 use Rattle.graph.specs.declared.fault.Layer.TheVariants as layer
 use Rattle.graph.specs.declared.fault.Reason.{Reason}
 use Rattle.graph.specs.Graphs.{Graph}
@@ -69,6 +69,3 @@ module _ {X : Type 0} (owner : X → Option ℕ) (content : X → Result Entry R
 
     pub pass_at : Grows owner content stage → content_refusal (stage (take i rows)) (owner x) (content x) ≡ None → Passed owner content stage first (take (i + 1) rows)
     pass_at grows none = subst (Passed owner content stage first) (ap (λ y. take i rows ++ (y ∷ [])) is ∙ sym (take_more rows i x inside)) (passes (take i rows) passed x grows none)
-
-  pub pass_all : (rows : List X) (i : ℕ) → length rows ≤ i → Passed owner content stage first (take i rows) → Passed owner content stage first rows
-  pass_all rows i past passed = subst (Passed owner content stage first) (take_all i rows past) passed

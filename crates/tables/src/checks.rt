@@ -15,7 +15,7 @@ use super::names::check_names;
 use super::row::Row;
 use graph::fault::{Fault, Layer, Reason};
 
-// Checks the records of a list one by one, where `first` records stand in the lists before it.
+// Checks the records of a list one by one, each behind those before it, where `first` records stand in the lists before it.
 fn check_rows<R: Row>(lists: Lists, rows: &[R], first: usize) -> Result<(), Fault>
     requires { first + length rows.now < 2 ^ 64 }
     ensures { Tells R.writes (R.content (held lists.entry).bytes) (R.stage (held lists.entry)) first rows.now result }

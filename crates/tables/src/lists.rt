@@ -7,14 +7,15 @@ pub struct Span {
     pub len: usize,
 }
 
-// A module: the number of its kind, and its id.
+// A module: the number of its kind, and its id. The number is as given: opening refuses one that no kind has.
 #[derive(Clone, Copy, PartialEq, Eq, Debug)]
 pub struct ModuleRow {
     pub kind: u8,
     pub id: Span,
 }
 
-// An import of module `owner`, bound there to `symbol`. Name 65535 is the whole namespace.
+// An import of module `owner`, bound there to `symbol`. Name 65535 is the whole namespace; the number is as given:
+// opening refuses one that no name has.
 #[derive(Clone, Copy, PartialEq, Eq, Debug)]
 pub struct ImportRow {
     pub owner: u16,

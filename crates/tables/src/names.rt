@@ -22,7 +22,7 @@ fn read_name(run: &[u8], span: Span) -> Option<&[u8]>
     Some(name)
 }
 
-// Checks the names, one by one.
+// Checks the names, one by one. The loops end by their label at the first name that is given twice.
 pub(crate) fn check_names(lists: Lists) -> Result<(), Fault>
     ensures { Tells no_owner (name_content (held lists.entry).bytes) (with_names (held lists.entry)) 0 (held lists.entry).names result }
 {
