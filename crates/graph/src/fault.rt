@@ -4,42 +4,32 @@ ghost use Rattle.graph.specs.Opening.{fault_in};
 
 use std::fmt;
 
-// Why a sheet or tables are refused.
+// Why a sheet or tables are refused, with the number by which a refusal is known.
 #[derive(Clone, Copy, PartialEq, Eq, Debug)]
 pub enum Reason {
-    // 10: the sheet is too long, or a field is cut short
-    BadLength,
-    // 11: a tag, length or kind that the format does not have
-    Malformed,
-    // 12: a name behind a module, or a record before every module
-    OutOfOrder,
-    // 13: no name, a first name other than `default`, or a name given twice
-    BadName,
-    // 14: a record over its limit
-    OverLimit,
-    // 15: a name or module number with no record
-    NoRecord,
-    // 16: two exports of one name or two imports of one symbol in a module
-    Duplicate,
-    // 17: an owner that is no ES module, or a star record aiming at an external one
-    WrongKind,
+    // the sheet is too long, or a field is cut short
+    BadLength = 10,
+    // a tag, length or kind that the format does not have
+    Malformed = 11,
+    // a name behind a module, or a record before every module
+    OutOfOrder = 12,
+    // no name, a first name other than `default`, or a name given twice
+    BadName = 13,
+    // a record over its limit
+    OverLimit = 14,
+    // a name or module number with no record
+    NoRecord = 15,
+    // two exports of one name or two imports of one symbol in a module
+    Duplicate = 16,
+    // an owner that is no ES module, or a star record aiming at an external one
+    WrongKind = 17,
 }
 
-// The number by which a refusal is known.
 impl From<Reason> for u8 {
     ghost from_gives = { λ reason n. n ≡ reason_number reason };
 
     fn from(reason: Reason) -> u8 {
-        match reason {
-            Reason::BadLength => 10,
-            Reason::Malformed => 11,
-            Reason::OutOfOrder => 12,
-            Reason::BadName => 13,
-            Reason::OverLimit => 14,
-            Reason::NoRecord => 15,
-            Reason::Duplicate => 16,
-            Reason::WrongKind => 17,
-        }
+        reason as u8
     }
 }
 

@@ -5,7 +5,8 @@ ghost use Rattle.graph.specs.Soundness.{Rising};
 
 use super::records::{Export, Import, Star};
 
-// A record that belongs to a module. Its impls are written out: the toolchain takes none from a macro of ours.
+// A record that belongs to a module. Its impls and those of `Keyed` are written out, since the gate refuses impls
+// by a macro of our own.
 pub trait Owned: Copy {
     ghost belongs: { Self → ℕ };
 

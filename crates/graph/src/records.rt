@@ -5,13 +5,13 @@ ghost use Rattle.graph.specs.Texts.{kind_name, unknown_kind_text, wanted_text};
 use std::error::Error;
 use std::fmt;
 
-// What a module is.
+// What a module is, with the number by which it is written.
 #[derive(Clone, Copy, PartialEq, Eq, Debug, Default)]
 pub enum Kind {
     #[default]
-    Es,
-    External,
-    Empty,
+    Es = 0,
+    External = 1,
+    Empty = 2,
 }
 
 // A kind as it is shown.
@@ -58,16 +58,11 @@ impl TryFrom<u8> for Kind {
     }
 }
 
-// The number by which a kind is written.
 impl From<Kind> for u8 {
     ghost from_gives = { λ kind n. n ≡ kind_number kind };
 
     fn from(kind: Kind) -> u8 {
-        match kind {
-            Kind::Es => 0,
-            Kind::External => 1,
-            Kind::Empty => 2,
-        }
+        kind as u8
     }
 }
 
@@ -78,7 +73,8 @@ pub struct Star {
     pub target: u16,
 }
 
-// What an import takes of its target: one name, by its number, or the whole namespace.
+// What an import takes of its target: one name, by its number, or the whole namespace. No Option, which could not have
+// the conversions and the text below.
 #[derive(Clone, Copy, PartialEq, Eq, Debug)]
 pub enum Wanted {
     Name(u16),

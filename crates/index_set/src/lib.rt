@@ -11,7 +11,7 @@ pub fn find<T: Eq>(xs: &[T], x: &T) -> Option<usize>
     xs.iter().position(|y| y == x)
 }
 
-// What came of adding an element: three answers that callers tell apart, so neither an Option nor a Result.
+// What came of adding an element. Three answers: as an Option or a Result one of them would need a second type inside.
 #[derive(Clone, Copy, PartialEq, Eq, Debug)]
 pub enum Added {
     // It stands at this place now.
@@ -25,7 +25,7 @@ pub enum Added {
 // A set that keeps its elements in the order in which they came, at the front of places that it was lent.
 #[derive(Drop)]
 pub struct IndexSet<'a, T: Eq> {
-    // lent, since what uses a set may take no memory
+    // a lent slice is a rule here: its owner takes all memory once, and chooses how many places there are
     places: &'a mut [T],
     len: usize,
     ghost fits: { len ≤ length places.now },

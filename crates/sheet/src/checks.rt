@@ -132,7 +132,7 @@ impl<'a> Progress<'a> {
     {
         let field = next.field()?;
         if let Some(reason) = self.refusal(field) {
-            return Err(Layer::Sheet.fault(reason, next.place));
+            return Err(next.fault(reason));
         }
         self.add(field, behind);
         Ok(())
@@ -173,7 +173,7 @@ fn check_targets(bytes: &[u8], kinds: &[Kind]) -> Result<(), Fault>
             return Ok(());
         };
         if let Some(reason) = aim_refusal(field, kinds) {
-            return Err(Layer::Sheet.fault(reason, next.place));
+            return Err(next.fault(reason));
         }
     }
     Ok(())

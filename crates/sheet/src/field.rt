@@ -52,9 +52,17 @@ impl<'a> FieldAt<'a> {
     pub fn field(self) -> Result<Field<'a>, Fault>
         ensures { MatchResult result (λ f. self.entry.content ≡ Ok f) (λ e. (self.entry.content ≡ Err e.reason) × (e ≡ fault_at e.reason self.entry.place)) }
     {
-        let place = self.place;
-        self.content
-            .map_err(|reason| Layer::Sheet.fault(reason, place))
+        match self.content {
+            Ok(field) => Ok(field),
+            Err(reason) => Err(self.fault(reason)),
+        }
+    }
+
+    // The fault of this field for a reason.
+    pub(crate) fn fault(self, reason: Reason) -> Fault
+        ensures { result ≡ fault_at reason self.entry.place }
+    {
+        Layer::Sheet.fault(reason, self.place)
     }
 }
 

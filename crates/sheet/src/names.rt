@@ -22,14 +22,11 @@ pub struct Names<'a> {
 fn is_name(field: FieldAt, name: &[u8]) -> bool
     ensures { result ≡ is_name field.entry.content name.now }
 {
-    match field.content {
-        Ok(Field::Name { bytes, .. }) => name == bytes,
-        _ => false,
-    }
+    matches!(field.content, Ok(Field::Name { bytes, .. }) if name == bytes)
 }
 
-// Reads the names at the head of a sheet, up to the first field that is no name. The loops end by their label at the
-// first name that is given twice.
+// Reads the names at the head of a sheet, up to the first field that is no name. Nested loops that a label ends at the
+// first name given twice are a form that this repository keeps for names (docs/DECISIONS.md).
 pub fn read_names(bytes: &[u8]) -> Result<Names<'_>, Fault>
     ensures { MatchResult result (λ (h : Names). Head (fields_at bytes.now 0) h.count (fields_left h.behind)) (λ e. gathered no_records (fields_at bytes.now 0) ≡ Err e) }
 {
@@ -43,7 +40,7 @@ pub fn read_names(bytes: &[u8]) -> Result<Names<'_>, Fault>
             break 'names;
         };
         if is_wrong_first(count, name) {
-            return Err(Layer::Sheet.fault(Reason::BadName, next.place));
+            return Err(next.fault(Reason::BadName));
         }
         for earlier in all.take(count) {
             if is_name(earlier, name) {
@@ -52,7 +49,7 @@ pub fn read_names(bytes: &[u8]) -> Result<Names<'_>, Fault>
             }
         }
         if count >= MOST_NAMES {
-            return Err(Layer::Sheet.fault(Reason::OverLimit, next.place));
+            return Err(next.fault(Reason::OverLimit));
         }
         behind = left;
         count += 1;

@@ -59,9 +59,7 @@ impl<'a> Payload<'a> {
         let [number, id @ ..] = self.bytes else {
             return Err(Reason::Malformed);
         };
-        let Ok(kind) = Kind::try_from(*number) else {
-            return Err(Reason::Malformed);
-        };
+        let kind = Kind::try_from(*number).map_err(|_| Reason::Malformed)?;
         if id.is_empty() || id.len() > LONGEST_ID {
             return Err(Reason::Malformed);
         }

@@ -14,7 +14,7 @@ pub struct Progress<'a> {
     pub exports: usize,
     // of the modules; opening takes no memory from the heap
     pub kinds: ArrayVec<Kind, MOST_MODULES>,
-    // the fields behind the latest module, and how many of them were its records
+    // the fields behind the latest module, and how many of them were its records: `take` of the two is what is asked
     pub own: Fields<'a>,
     pub owned: usize,
     ghost few_stars: { stars ≤ 1024 },

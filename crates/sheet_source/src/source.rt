@@ -23,12 +23,9 @@ impl<'a> Sheet<'a> {
     pub fn of(bytes: &'a [u8]) -> Self
         ensures { graph_of result.bytes.now ≡ graph_of bytes.now }
     {
-        let Ok(sheet) = Sheet::open(bytes) else {
-            return Sheet {
-                bytes: b"\x01\x00\x07default",
-            };
-        };
-        sheet
+        Sheet::open(bytes).unwrap_or(Sheet {
+            bytes: b"\x01\x00\x07default",
+        })
     }
 
     // Its records, each with its owner.

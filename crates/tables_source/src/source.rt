@@ -35,12 +35,9 @@ impl<'a> Tables<'a> {
     pub fn of(lists: Lists<'a>) -> Self
         ensures { graph_of (held result.lists) ≡ graph_of (held lists.entry) }
     {
-        let Ok(tables) = Tables::open(lists) else {
-            return Tables {
-                lists: DEFAULT_ALONE,
-            };
-        };
-        tables
+        Tables::open(lists).unwrap_or(Tables {
+            lists: DEFAULT_ALONE,
+        })
     }
 }
 
