@@ -83,6 +83,7 @@ impl<'a, T: Eq + Copy> IndexSet<'a, T> {
     }
 }
 
+// The set hands its lent slice to a function, a form that is kept here (docs/DECISIONS.md).
 // Writes `x` behind the first `used` places, unless one of them holds the same or every place is taken: then nothing changes.
 fn put<T: Eq + Copy>(places: &mut [T], used: usize, x: T) -> Added
     requires { used ≤ length places.old }
