@@ -1,10 +1,12 @@
+#![tactic(auto, using(std::proofs::Common::append_assoc))]
+
 ghost use Rattle.std.specs.Prelude.{◌≡◌, ◌++◌, IfOk, string_bytes, OnOk};
 ghost use Rattle.sheet.specs.Opening.{entries};
 ghost use Rattle.sheet_text.specs.Counting.{no_counts, counted};
 ghost use Rattle.sheet_text.specs.Lines.{lines, sheet_text};
 
 use super::counts::Counts;
-use super::lines::{push_line, push_summary};
+use super::lines::Line;
 use sheet::records::Records;
 use std::alloc::{AllocError, Global};
 
@@ -12,7 +14,7 @@ use std::alloc::{AllocError, Global};
 fn count_records(bytes: &[u8]) -> Counts
     ensures { result ≡ counted no_counts (entries bytes.now) }
 {
-    let mut counts = Counts::NONE;
+    let mut counts = Counts::default();
     for record in Records::of(bytes) {
         counts = counts.with(record.field);
     }
@@ -23,9 +25,13 @@ fn count_records(bytes: &[u8]) -> Counts
 fn push_lines(out: &mut String, bytes: &[u8]) -> Result<(), AllocError>
     ensures { OnOk result (string_bytes out.new ≡ string_bytes out.old ++ lines no_counts (entries bytes.now)) }
 {
-    let mut before = Counts::NONE;
+    let mut before = Counts::default();
     for record in Records::of(bytes) {
-        push_line(out, &before, record.field)?;
+        let line = Line {
+            before,
+            field: record.field,
+        };
+        writeln!(out, "{line}")?;
         before = before.with(record.field);
     }
     Ok(())
@@ -36,7 +42,8 @@ pub fn sheet_text(heap: Global, bytes: &[u8]) -> Result<String, AllocError>
     ensures { IfOk result (λ t. string_bytes t ≡ sheet_text (entries bytes.now)) }
 {
     let mut text = String::new(heap);
-    push_summary(&mut text, &count_records(bytes))?;
+    let counts = count_records(bytes);
+    writeln!(text, "{counts}")?;
     push_lines(&mut text, bytes)?;
     Ok(text)
 }

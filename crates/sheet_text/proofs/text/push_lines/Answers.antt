@@ -1,4 +1,4 @@
-use Rattle.std.proofs.Common.{◌++◌, ap, length, string_bytes, arith}
+use Rattle.std.proofs.Common.{◌≡◌, ◌++◌, ap, length, string_bytes, arith, rules}
 use Rattle.sheet_text.specs.Counting.{no_counts}
 use Rattle.sheet_text.specs.Lines.{lines}
 use Rattle.sheet_text.proofs.Left.{all_left, few}
@@ -7,4 +7,5 @@ use Rattle.sheet_text.proofs.text.push_lines.Goals as goal
 pub loop-record-init : goal.loop-record-init
 loop-record-init c =
     let all = all_left c.of-record-items.result _ c.args.bytes.now c.into_iter-record-iterator.ensures.into_iter_gives c.of-record-items.ensures in
-    (tt, tt, ap (λ es. string_bytes c.args.out.now ++ lines no_counts es) all, omega (arith, ap length all, few c.args.bytes.now))
+    let none : c.default-before.result ≡ no_counts = search rules in
+    (tt, tt, rw none (ap (λ es. string_bytes c.args.out.now ++ lines no_counts es) all), rw none (omega (arith, ap length all, few c.args.bytes.now)))
