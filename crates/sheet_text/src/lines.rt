@@ -1,17 +1,20 @@
 ghost use Rattle.std.specs.Prelude.{Some};
 ghost use Rattle.sheet.specs.Borrowed.{entry_of};
-ghost use Rattle.sheet_text.specs.Lines.{record_text};
+ghost use Rattle.sheet.specs.Opening.{entries};
+ghost use Rattle.sheet_text.specs.Counting.{no_counts};
+ghost use Rattle.sheet_text.specs.Lines.{record_text, lines};
 
 use super::counts::Counts;
 use super::escape::Escaped;
 use sheet::field::Field;
+use sheet::records::Records;
 use std::fmt;
 
 // A record as its line shows it. `before` counts the records before it.
 #[derive(Clone, Copy)]
-pub(crate) struct Line<'a> {
-    pub(crate) before: Counts,
-    pub(crate) field: Field<'a>,
+struct Line<'a> {
+    before: Counts,
+    field: Field<'a>,
 }
 
 impl fmt::Display for Line<'_> {
@@ -47,5 +50,23 @@ impl fmt::Display for Line<'_> {
                 "export {exports} of module {owner}: symbol {symbol} as name {name}"
             ),
         }
+    }
+}
+
+// The lines of the records that can be read.
+#[derive(Clone, Copy)]
+pub(crate) struct Lines<'a>(pub(crate) &'a [u8]);
+
+impl fmt::Display for Lines<'_> {
+    ghost output = { λ l. Some (lines no_counts (entries l.0.now)) };
+
+    fn fmt<W: fmt::Write>(&self, f: &mut fmt::Formatter<W>) -> fmt::Result {
+        let mut before = Counts::default();
+        for record in Records::of(self.0) {
+            let field = record.field;
+            writeln!(f, "{}", Line { before, field })?;
+            before = before.with(field);
+        }
+        Ok(())
     }
 }

@@ -1,12 +1,10 @@
-#![tactic(auto, using(std::proofs::Common::append_assoc))]
-
-ghost use Rattle.std.specs.Prelude.{◌≡◌, ◌++◌, IfOk, string_bytes, OnOk};
+ghost use Rattle.std.specs.Prelude.{◌≡◌, IfOk, string_bytes};
 ghost use Rattle.sheet.specs.Opening.{entries};
 ghost use Rattle.sheet_text.specs.Counting.{no_counts, counted};
-ghost use Rattle.sheet_text.specs.Lines.{lines, sheet_text};
+ghost use Rattle.sheet_text.specs.Lines.{sheet_text};
 
 use super::counts::Counts;
-use super::lines::Line;
+use super::lines::Lines;
 use sheet::records::Records;
 use std::alloc::{AllocError, Global};
 
@@ -21,31 +19,12 @@ fn count_records(bytes: &[u8]) -> Counts
     counts
 }
 
-// Writes the lines of these records behind what `out` has.
-fn push_lines(out: &mut String, bytes: &[u8]) -> Result<(), AllocError>
-    ensures { OnOk result (string_bytes out.new ≡ string_bytes out.old ++ lines no_counts (entries bytes.now)) }
-{
-    let mut before = Counts::default();
-    for record in Records::of(bytes) {
-        let line = Line {
-            before,
-            field: record.field,
-        };
-        writeln!(out, "{line}")?;
-        before = before.with(record.field);
-    }
-    Ok(())
-}
-
 // The text of a sheet: a summary, and a line for each record up to the first field that cannot be read.
 pub fn sheet_text(heap: Global, bytes: &[u8]) -> Result<String, AllocError>
     ensures { IfOk result (λ t. string_bytes t ≡ sheet_text (entries bytes.now)) }
 {
-    let mut text = String::new(heap);
     let counts = count_records(bytes);
-    writeln!(text, "{counts}")?;
-    push_lines(&mut text, bytes)?;
-    Ok(text)
+    format!(in heap; "{counts}\n{}", Lines(bytes))
 }
 
 #[cfg(test)]
