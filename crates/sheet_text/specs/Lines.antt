@@ -22,6 +22,10 @@ record_text before (an_export name symbol) = heading before (codes "export") bef
 abbrev pub line : Counts → Entry → List ℕ
 line before e = record_text before e ++ (10 ∷ [])
 
+-- all counts
+abbrev pub counts_text : Counts → List ℕ
+counts_text all = decimal all.names ++ (codes " names, " ++ (decimal all.modules ++ (codes " modules, " ++ (decimal all.stars ++ (codes " star records, " ++ (decimal all.imports ++ (codes " imports, " ++ (decimal all.exports ++ codes " exports"))))))))
+
 -- the line of all counts
 abbrev pub summary : Counts → List ℕ
 summary all = decimal all.names ++ (codes " names, " ++ (decimal all.modules ++ (codes " modules, " ++ (decimal all.stars ++ (codes " star records, " ++ (decimal all.imports ++ (codes " imports, " ++ (decimal all.exports ++ codes " exports\n"))))))))

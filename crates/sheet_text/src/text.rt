@@ -1,10 +1,10 @@
-ghost use Rattle.std.specs.Prelude.{◌≡◌, ◌++◌, IfOk, string_bytes, OnOk};
+ghost use Rattle.std.specs.Prelude.{◌≡◌, IfOk, string_bytes};
 ghost use Rattle.sheet.specs.Opening.{entries};
 ghost use Rattle.sheet_text.specs.Counting.{no_counts, counted};
-ghost use Rattle.sheet_text.specs.Lines.{lines, sheet_text};
+ghost use Rattle.sheet_text.specs.Lines.{sheet_text};
 
 use super::counts::Counts;
-use super::lines::{push_line, push_summary};
+use super::lines::Lines;
 use sheet::records::Records;
 use std::alloc::{AllocError, Global};
 
@@ -12,33 +12,19 @@ use std::alloc::{AllocError, Global};
 fn count_records(bytes: &[u8]) -> Counts
     ensures { result ≡ counted no_counts (entries bytes.now) }
 {
-    let mut counts = Counts::NONE;
+    let mut counts = Counts::default();
     for record in Records::of(bytes) {
         counts = counts.with(record.field);
     }
     counts
 }
 
-// Writes the lines of these records behind what `out` has.
-fn push_lines(out: &mut String, bytes: &[u8]) -> Result<(), AllocError>
-    ensures { OnOk result (string_bytes out.new ≡ string_bytes out.old ++ lines no_counts (entries bytes.now)) }
-{
-    let mut before = Counts::NONE;
-    for record in Records::of(bytes) {
-        push_line(out, &before, record.field)?;
-        before = before.with(record.field);
-    }
-    Ok(())
-}
-
 // The text of a sheet: a summary, and a line for each record up to the first field that cannot be read.
 pub fn sheet_text(heap: Global, bytes: &[u8]) -> Result<String, AllocError>
     ensures { IfOk result (λ t. string_bytes t ≡ sheet_text (entries bytes.now)) }
 {
-    let mut text = String::new(heap);
-    push_summary(&mut text, &count_records(bytes))?;
-    push_lines(&mut text, bytes)?;
-    Ok(text)
+    let counts = count_records(bytes);
+    format!(in heap; "{counts}\n{}", Lines(bytes))
 }
 
 #[cfg(test)]
