@@ -55,11 +55,8 @@ impl Row for ModuleRow {
     ghost grows = { modules_grow };
 
     fn refusal(&self, lists: Lists, before: &[ModuleRow]) -> Option<Reason> {
-        let id = self.id.bytes(lists.bytes);
-        if !self.id.is_inside(lists.bytes) || id.is_empty() || id.len() > LONGEST_ID {
-            return Some(Reason::Malformed);
-        }
-        if Kind::try_from(self.kind).is_err() {
+        let id = self.id.read(lists.bytes, LONGEST_ID);
+        if id.is_none() || Kind::try_from(self.kind).is_err() {
             return Some(Reason::Malformed);
         }
         if before.len() >= MOST_MODULES {
