@@ -13,7 +13,7 @@ use Rattle.graph.specs.Rules.{listed, wrong_name}
 use Rattle.graph.specs.Opening.{content_refusal, fault_in}
 use Rattle.graph.proofs.Naming.{wrong_by_first, wrong_by_list, not_wrong}
 use Rattle.tables.specs.declared.lists.Span.{Span}
-use Rattle.tables.specs.Spans.{inside, bytes_in, is_read}
+use Rattle.tables.specs.Spans.{bytes_in, is_read}
 use Rattle.tables.specs.Rows.{Held, no_owner, name_content, with_names}
 use Rattle.tables.specs.Staging.{checked, Passed}
 use Rattle.tables.proofs.Staged.{stop_at, pass_at}

@@ -7,7 +7,8 @@ use graph::fault::{Fault, Layer, Reason};
 use graph::limits::{LONGEST_NAME, MOST_NAMES};
 use graph::rules::is_wrong_first;
 
-// Checks the names, one by one. The loops end by their label at the first name that is given twice.
+// Checks the names, one by one. The loops end by their label at the first name that is given twice: nested loops left by
+// a label are a form that this repository keeps for names (docs/DECISIONS.md).
 pub(crate) fn check_names(lists: Lists) -> Result<(), Fault>
     ensures { Tells no_owner (name_content (held lists.entry).bytes) (with_names (held lists.entry)) 0 (held lists.entry).names result }
 {
