@@ -1,19 +1,19 @@
 -- The checks of the names, one by one.
-use Rattle.std.proofs.Common.{◌≡◌, ℕ, ◌+◌, ◌<◌, ◌≤◌, Bool, true, false, not, ◌&&◌, ◌||◌, eqb, List, map, length, get_or, take, drop, Some, None, Ok, Err, Option, Result, sym, ap, ◌∙◌, arith}
+use Rattle.std.proofs.Common.{◌≡◌, ℕ, ◌+◌, ◌<◌, ◌≤◌, Bool, true, false, not, ◌&&◌, ◌||◌, eqb, List, map, length, get_or, take, drop, Some, None, Ok, Err, Option, Result, sym, ap, ◌∙◌, arith, rules}
 use Rattle.std.specs.Str.{bytes_eq}
 use Rattle.std.proofs.lemmas.List.{length-map, length-take-le, get_or_default, at_drop_more, at_drop_all}
 use Rattle.std.proofs.lemmas.Bool.{true≢false, cond-true, cond-false, le-leb, lt-leb}
 use Rattle.graph.specs.declared.fault.Fault.{Fault}
 use Rattle.graph.specs.declared.fault.Layer.TheVariants as layer
 use Rattle.graph.specs.declared.fault.Reason.{Reason}
-use Rattle.graph.specs.declared.fault.Reason.TheVariants.{BadName, OverLimit}
+use Rattle.graph.specs.declared.fault.Reason.TheVariants.{Malformed, BadName, OverLimit}
 use Rattle.graph.specs.Graphs.{Graph, default_name}
 use Rattle.graph.specs.Entries.{a_name}
 use Rattle.graph.specs.Rules.{listed, wrong_name}
 use Rattle.graph.specs.Opening.{content_refusal, fault_in}
 use Rattle.graph.proofs.Naming.{wrong_by_first, wrong_by_list, not_wrong}
 use Rattle.tables.specs.declared.lists.Span.{Span}
-use Rattle.tables.specs.Spans.{bytes_in}
+use Rattle.tables.specs.Spans.{bytes_in, is_read}
 use Rattle.tables.specs.Rows.{Held, no_owner, name_content, with_names}
 use Rattle.tables.specs.Staging.{checked, Passed}
 use Rattle.tables.proofs.Staged.{stop_at, pass_at}
@@ -29,20 +29,27 @@ names_checked h names = checked no_owner (name_content h.bytes) (with_names h) 0
 abbrev pub NamesPass : Held → List Span → Type 0
 NamesPass h names = Passed no_owner (name_content h.bytes) (with_names h) 0 names
 
+-- what a name says that was read, or not
+read_says : (run : List ℕ) (s : Span) {name : List ℕ} → is_read 255 run s ≡ true → name ≡ bytes_in run s → name_content run s ≡ Ok (a_name name)
+read_says run s read is = search rules
+
+unread_says : (run : List ℕ) (s : Span) → is_read 255 run s ≡ false → name_content run s ≡ Err Malformed
+unread_says run s unread = search rules
+
 -- name i, behind names that pass; n is i as the code has it
 module _ (h : Held) (i : ℕ) (d : Span) (inside : i < length h.names) (passed : NamesPass h (take i h.names)) where
   refused : (reason : Reason) → content_refusal (with_names h (take i h.names)) None (name_content h.bytes (get_or h.names i d)) ≡ Some reason → names_checked h h.names ≡ Err (fault_in layer.Tables reason i)
   refused reason e = stop_at no_owner (name_content h.bytes) (with_names h) 0 h.names i inside (get_or h.names i d) (get_or_default h.names i d (get_or h.names i d) inside) passed reason e ∙ ap (λ p. Err (fault_in layer.Tables reason p)) (omega arith)
 
-  pub unread : (reason : Reason) → name_content h.bytes (get_or h.names i d) ≡ Err reason → names_checked h h.names ≡ Err (fault_in layer.Tables reason i)
-  unread reason e = refused reason (ap (content_refusal (with_names h (take i h.names)) None) e)
+  pub unread : is_read 255 h.bytes (get_or h.names i d) ≡ false → names_checked h h.names ≡ Err (fault_in layer.Tables Malformed i)
+  unread fails = refused Malformed (ap (content_refusal (with_names h (take i h.names)) None) (unread_says h.bytes (get_or h.names i d) fails))
 
-  module _ {name : List ℕ} (read : name_content h.bytes (get_or h.names i d) ≡ Ok (a_name name)) where
+  module _ {name : List ℕ} (read : is_read 255 h.bytes (get_or h.names i d) ≡ true) (is : name ≡ bytes_in h.bytes (get_or h.names i d)) where
     counted : length (map (bytes_in h.bytes) (take i h.names)) ≡ i
     counted = length-map (take i h.names) (bytes_in h.bytes) ∙ length-take-le i h.names (omega arith)
 
     as_name : content_refusal (with_names h (take i h.names)) None (name_content h.bytes (get_or h.names i d)) ≡ content_refusal (with_names h (take i h.names)) None (Ok (a_name name))
-    as_name = ap (content_refusal (with_names h (take i h.names)) None) read
+    as_name = ap (content_refusal (with_names h (take i h.names)) None) (read_says h.bytes (get_or h.names i d) read is)
 
     bad_name : wrong_name (map (bytes_in h.bytes) (take i h.names)) name ≡ true → names_checked h h.names ≡ Err (fault_in layer.Tables BadName i)
     bad_name wrong = refused BadName (as_name ∙ cond-true _ _ _ wrong)

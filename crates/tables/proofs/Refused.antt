@@ -66,19 +66,15 @@ module _ (h : Held) where
   pub star_refused : (before : List Star) (s : Star) (first : ℕ) (r : Option Reason) → (Rising star_owner before → r ≡ owned_refusal (falls_behind star_owner before s.owner) (length before) (leb (length h.modules) s.owner || false) false (owner_es s.owner)) → Passed star_writes (star_content h.bytes) (with_stars h) first before → r ≡ content_refusal (with_stars h before) (star_writes s) (star_content h.bytes s)
   star_refused before s first r told passed = told (stars_rise first before passed) ∙ star_same before s
 
-  module _ (nameless twice : Bool) (r : Option Reason) (first : ℕ) where
-    pub import_refused : (before : List ImportRow) (i : ImportRow) → (Rising row_owner before → r ≡ owned_refusal (falls_behind row_owner before i.owner) (length before) (leb (length h.modules) i.owner || nameless) twice (owner_es i.owner)) → nameless ≡ wants_unknown (length h.names) (wanted_numbered i.name) → (Rising row_owner before → twice ≡ is_some (first_keyed row_owner row_symbol before i.owner i.symbol)) → Passed import_writes (import_content h.bytes) (with_imports h) first before → r ≡ content_refusal (with_imports h before) (import_writes i) (import_content h.bytes i)
-    import_refused before i told nameless-is twice-is passed =
-        let up = imports_rise first before passed in
-        told up
-        ∙ ap (λ b. owned_refusal (falls_behind row_owner before i.owner) (length before) (leb (length h.modules) i.owner || b) twice (owner_es i.owner)) nameless-is
-        ∙ ap (λ b. owned_refusal (falls_behind row_owner before i.owner) (length before) (leb (length h.modules) i.owner || wants_unknown (length h.names) (wanted_numbered i.name)) b (owner_es i.owner)) (twice-is up)
+  module _ (nameless : Bool) (r : Option Reason) (first : ℕ) where
+    pub import_refused : (before : List ImportRow) (i : ImportRow) → (Rising row_owner before → r ≡ owned_refusal (falls_behind row_owner before i.owner) (length before) (leb (length h.modules) i.owner || nameless) (is_some (first_keyed row_owner row_symbol before i.owner i.symbol)) (owner_es i.owner)) → nameless ≡ wants_unknown (length h.names) (wanted_numbered i.name) → Passed import_writes (import_content h.bytes) (with_imports h) first before → r ≡ content_refusal (with_imports h before) (import_writes i) (import_content h.bytes i)
+    import_refused before i told nameless-is passed =
+        told (imports_rise first before passed)
+        ∙ ap (λ b. owned_refusal (falls_behind row_owner before i.owner) (length before) (leb (length h.modules) i.owner || b) (is_some (first_keyed row_owner row_symbol before i.owner i.symbol)) (owner_es i.owner)) nameless-is
         ∙ import_same before i
 
-    pub export_refused : (before : List Export) (e : Export) → (Rising export_owner before → r ≡ owned_refusal (falls_behind export_owner before e.owner) (length before) (leb (length h.modules) e.owner || nameless) twice (owner_es e.owner)) → nameless ≡ leb (length h.names) e.name → (Rising export_owner before → twice ≡ is_some (first_keyed export_owner export_name before e.owner e.name)) → Passed export_writes (export_content h.bytes) (with_exports h) first before → r ≡ content_refusal (with_exports h before) (export_writes e) (export_content h.bytes e)
-    export_refused before e told nameless-is twice-is passed =
-        let up = exports_rise first before passed in
-        told up
-        ∙ ap (λ b. owned_refusal (falls_behind export_owner before e.owner) (length before) (leb (length h.modules) e.owner || b) twice (owner_es e.owner)) nameless-is
-        ∙ ap (λ b. owned_refusal (falls_behind export_owner before e.owner) (length before) (leb (length h.modules) e.owner || leb (length h.names) e.name) b (owner_es e.owner)) (twice-is up)
+    pub export_refused : (before : List Export) (e : Export) → (Rising export_owner before → r ≡ owned_refusal (falls_behind export_owner before e.owner) (length before) (leb (length h.modules) e.owner || nameless) (is_some (first_keyed export_owner export_name before e.owner e.name)) (owner_es e.owner)) → nameless ≡ leb (length h.names) e.name → Passed export_writes (export_content h.bytes) (with_exports h) first before → r ≡ content_refusal (with_exports h before) (export_writes e) (export_content h.bytes e)
+    export_refused before e told nameless-is passed =
+        told (exports_rise first before passed)
+        ∙ ap (λ b. owned_refusal (falls_behind export_owner before e.owner) (length before) (leb (length h.modules) e.owner || b) (is_some (first_keyed export_owner export_name before e.owner e.name)) (owner_es e.owner)) nameless-is
         ∙ export_same before e

@@ -38,7 +38,8 @@ impl Aimed for ImportRow {
     }
 }
 
-// Checks the targets of the records of a list, each by itself, where `first` records stand in the lists before it.
+// Checks the targets of the records of a list, each by itself, where `first` records stand in the lists before it. Apart
+// from `check_rows`, which says why.
 pub(crate) fn check_aims<R: Aimed>(
     modules: &[ModuleRow],
     rows: &[R],

@@ -15,7 +15,9 @@ use super::names::check_names;
 use super::row::Row;
 use graph::fault::{Fault, Layer, Reason};
 
-// Checks the records of a list one by one, each behind those before it, where `first` records stand in the lists before it.
+// Checks the records of a list one by one, each behind those before it, where `first` records stand in the lists before
+// it. Apart from `check_aims`: what is promised here follows the graph that the records come to, while an aim is checked
+// by itself, and one function with a closure would have to carry both contracts.
 fn check_rows<R: Row>(lists: Lists, rows: &[R], first: usize) -> Result<(), Fault>
     requires { first + length rows.now < 2 ^ 64 }
     ensures { Tells R.writes (R.content (held lists.entry).bytes) (R.stage (held lists.entry)) first rows.now result }
@@ -32,29 +34,22 @@ fn check_rows<R: Row>(lists: Lists, rows: &[R], first: usize) -> Result<(), Faul
 fn check_records(lists: Lists) -> Result<(), Fault>
     ensures { MatchResult result (λ _. gathered layer.Tables no_records (records (held lists.entry)) ≡ Ok (meant (held lists.entry))) (λ f. gathered layer.Tables no_records (records (held lists.entry)) ≡ Err f) }
 {
-    let modules = lists.names.len();
-    let stars = modules + lists.modules.len();
-    let imports = stars + lists.stars.len();
-    let exports = imports + lists.imports.len();
     check_names(lists)?;
-    check_rows(lists, lists.modules, modules)?;
-    check_rows(lists, lists.stars, stars)?;
-    check_rows(lists, lists.imports, imports)?;
-    check_rows(lists, lists.exports, exports)
+    check_rows(lists, lists.modules, lists.module_place())?;
+    check_rows(lists, lists.stars, lists.star_place())?;
+    check_rows(lists, lists.imports, lists.import_place())?;
+    check_rows(lists, lists.exports, lists.export_place())
 }
 
 // The checks behind the last record: that there is a name, then the targets.
 fn finish(lists: Lists) -> Result<(), Fault>
     ensures { gathered layer.Tables no_records (records (held lists.entry)) ≡ Ok (meant (held lists.entry)) → MatchResult result (λ _. opened (held lists.entry) ≡ Ok (meant (held lists.entry))) (λ f. opened (held lists.entry) ≡ Err f) }
 {
-    let stars = lists.names.len() + lists.modules.len();
-    let imports = stars + lists.stars.len();
     if lists.names.is_empty() {
-        let end = imports + lists.imports.len() + lists.exports.len();
-        return Err(Layer::Tables.fault(Reason::BadName, end));
+        return Err(Layer::Tables.fault(Reason::BadName, lists.record_count()));
     }
-    check_aims(lists.modules, lists.stars, stars)?;
-    check_aims(lists.modules, lists.imports, imports)
+    check_aims(lists.modules, lists.stars, lists.star_place())?;
+    check_aims(lists.modules, lists.imports, lists.import_place())
 }
 
 // Opens tables: nothing stands in the way, or their first fault does.

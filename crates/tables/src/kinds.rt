@@ -6,7 +6,8 @@ use super::lists::ModuleRow;
 use graph::records::Kind;
 
 impl ModuleRow {
-    // The kind of the module. A number that is no kind's is refused by opening, and counts as an empty module here.
+    // The kind of the module. A number that is no kind's is refused by opening, and counts as an empty module here. Not a
+    // `From`, whose name would not say what becomes of such a number.
     pub fn kind_or_empty(self) -> Kind
         ensures { result ≡ row_kind self }
     {

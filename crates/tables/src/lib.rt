@@ -10,6 +10,7 @@ pub mod lists;
 mod names;
 pub mod owned;
 pub mod owners;
+mod places;
 mod row;
 mod rows;
 pub mod span;

@@ -7,15 +7,17 @@ pub struct Span {
     pub len: usize,
 }
 
-// A module: the number of its kind, and its id. The number is as given: opening refuses one that no kind has.
+// A module: its kind and its id. The kind is a number, as the format of tables writes it: opening refuses one that no
+// kind has.
 #[derive(Clone, Copy, PartialEq, Eq, Debug)]
 pub struct ModuleRow {
     pub kind: u8,
     pub id: Span,
 }
 
-// An import of module `owner`, bound there to `symbol`. Name 65535 is the whole namespace; the number is as given:
-// opening refuses one that no name has.
+// An import of module `owner`, bound there to `symbol`. The name is a number, as the format of tables writes it, 65535
+// for the whole namespace: a `Wanted` could not be written as the format has it. Opening refuses a number that no name
+// has.
 #[derive(Clone, Copy, PartialEq, Eq, Debug)]
 pub struct ImportRow {
     pub owner: u16,

@@ -1,28 +1,14 @@
-ghost use Rattle.std.specs.Prelude.{◌≡◌, Ok, Err, MatchOption};
-ghost use Rattle.graph.specs.declared.fault.Reason.TheVariants.{Malformed};
-ghost use Rattle.graph.specs.Entries.{a_name};
-ghost use Rattle.tables.specs.Spans.{bytes_in};
 ghost use Rattle.tables.specs.Rows.{no_owner, name_content, with_names};
 ghost use Rattle.tables.specs.Staging.{Tells};
 ghost use Rattle.tables.specs.Borrowed.{held};
 
-use super::lists::{Lists, Span};
+use super::lists::Lists;
 use graph::fault::{Fault, Layer, Reason};
 use graph::limits::{LONGEST_NAME, MOST_NAMES};
 use graph::rules::is_wrong_first;
 
-// The bytes of a name, where it can be read.
-fn read_name(run: &[u8], span: Span) -> Option<&[u8]>
-    ensures { MatchOption result (name_content run.now span ≡ Err Malformed) (λ name. (name_content run.now span ≡ Ok (a_name name.now)) × (name.now ≡ bytes_in run.now span)) }
-{
-    let name = span.bytes(run);
-    if !span.is_inside(run) || name.is_empty() || name.len() > LONGEST_NAME {
-        return None;
-    }
-    Some(name)
-}
-
-// Checks the names, one by one. The loops end by their label at the first name that is given twice.
+// Checks the names, one by one. The loops end by their label at the first name that is given twice: nested loops left by
+// a label are a form that this repository keeps for names (docs/DECISIONS.md).
 pub(crate) fn check_names(lists: Lists) -> Result<(), Fault>
     ensures { Tells no_owner (name_content (held lists.entry).bytes) (with_names (held lists.entry)) 0 (held lists.entry).names result }
 {
@@ -30,7 +16,7 @@ pub(crate) fn check_names(lists: Lists) -> Result<(), Fault>
     let names = lists.names;
     let mut repeated = None;
     'names: for (place, span) in names.iter().enumerate() {
-        let Some(name) = read_name(run, *span) else {
+        let Some(name) = span.read(run, LONGEST_NAME) else {
             return Err(Layer::Tables.fault(Reason::Malformed, place));
         };
         if is_wrong_first(place, name) {

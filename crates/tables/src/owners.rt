@@ -5,6 +5,7 @@ ghost use Rattle.graph.specs.Soundness.{Rising};
 use super::lists::ImportRow;
 use graph::lookups::{Keyed, Owned};
 
+// The impls are written out, as the gate refuses those that a macro of this repository writes.
 impl Owned for ImportRow {
     ghost belongs = { λ i. i.owner };
 
@@ -26,8 +27,5 @@ impl Keyed for ImportRow {
 pub(crate) fn falls_behind<T: Owned>(before: &[T], owner: u16) -> bool
     ensures { Rising T.belongs before.now → result ≡ falls_behind T.belongs before.now owner }
 {
-    before
-        .last()
-        .copied()
-        .is_some_and(|last| owner < last.owner())
+    before.last().is_some_and(|last| owner < last.owner())
 }

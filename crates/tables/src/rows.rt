@@ -18,19 +18,18 @@ use graph::lookups::{Keyed, Owned, find_of};
 use graph::records::{Export, Kind, Star, Wanted};
 use graph::rules::{is_es, owned_refusal};
 
-// Why a record of this owner is refused behind `before`: whether its name has no record, and whether it is given twice,
-// is told already.
+// Why a row is refused behind `before`: whether its name has no record, and whether it is given twice, is told already.
 fn refusal_behind<T: Owned>(
+    row: &T,
     lists: Lists,
     before: &[T],
-    owner: u16,
     nameless: bool,
     twice: bool,
 ) -> Option<Reason>
-    ensures { Rising T.belongs before.now → result ≡ owned_refusal (falls_behind T.belongs before.now owner) (length before.now) (nat_le (length (held lists.entry).modules) owner || nameless) twice (is_es (kind_in (map (module_of (held lists.entry).bytes) (held lists.entry).modules) owner)) }
+    ensures { Rising T.belongs before.now → result ≡ owned_refusal (falls_behind T.belongs before.now (T.belongs row.now)) (length before.now) (nat_le (length (held lists.entry).modules) (T.belongs row.now) || nameless) twice (is_es (kind_in (map (module_of (held lists.entry).bytes) (held lists.entry).modules) (T.belongs row.now))) }
 {
-    let falls = falls_behind(before, owner);
-    let owner = usize::from(owner);
+    let falls = falls_behind(before, row.owner());
+    let owner = usize::from(row.owner());
     let unknown = owner >= lists.modules.len() || nameless;
     let es = is_es(kind_at(lists.modules, owner));
     owned_refusal(falls, before.len(), unknown, twice, es)
@@ -45,6 +44,18 @@ fn is_given_twice<T: Owned + Keyed>(row: &T, before: &[T]) -> bool
     find_of(before, owner, key).is_some()
 }
 
+// The same for a row that is known by its key: it is given twice where a row before it has its owner and its key.
+fn keyed_refusal<T: Owned + Keyed>(
+    row: &T,
+    lists: Lists,
+    before: &[T],
+    nameless: bool,
+) -> Option<Reason>
+    ensures { Rising T.belongs before.now → result ≡ owned_refusal (falls_behind T.belongs before.now (T.belongs row.now)) (length before.now) (nat_le (length (held lists.entry).modules) (T.belongs row.now) || nameless) (is_some (first_keyed T.belongs T.keyed before.now (T.belongs row.now) (T.keyed row.now))) (is_es (kind_in (map (module_of (held lists.entry).bytes) (held lists.entry).modules) (T.belongs row.now))) }
+{
+    refusal_behind(row, lists, before, nameless, is_given_twice(row, before))
+}
+
 impl Row for ModuleRow {
     ghost writes = { no_owner };
 
@@ -55,11 +66,8 @@ impl Row for ModuleRow {
     ghost grows = { modules_grow };
 
     fn refusal(&self, lists: Lists, before: &[ModuleRow]) -> Option<Reason> {
-        let id = self.id.bytes(lists.bytes);
-        if !self.id.is_inside(lists.bytes) || id.is_empty() || id.len() > LONGEST_ID {
-            return Some(Reason::Malformed);
-        }
-        if Kind::try_from(self.kind).is_err() {
+        let id = self.id.read(lists.bytes, LONGEST_ID);
+        if id.is_none() || Kind::try_from(self.kind).is_err() {
             return Some(Reason::Malformed);
         }
         if before.len() >= MOST_MODULES {
@@ -79,7 +87,7 @@ impl Row for Star {
     ghost grows = { Prim.search rules };
 
     fn refusal(&self, lists: Lists, before: &[Star]) -> Option<Reason> {
-        refusal_behind(lists, before, self.owner, false, false)
+        refusal_behind(self, lists, before, false, false)
     }
 }
 
@@ -94,13 +102,7 @@ impl Row for ImportRow {
 
     fn refusal(&self, lists: Lists, before: &[ImportRow]) -> Option<Reason> {
         let nameless = Wanted::from(self.name).is_unknown(lists.names.len());
-        refusal_behind(
-            lists,
-            before,
-            self.owner,
-            nameless,
-            is_given_twice(self, before),
-        )
+        keyed_refusal(self, lists, before, nameless)
     }
 }
 
@@ -115,12 +117,6 @@ impl Row for Export {
 
     fn refusal(&self, lists: Lists, before: &[Export]) -> Option<Reason> {
         let nameless = usize::from(self.name) >= lists.names.len();
-        refusal_behind(
-            lists,
-            before,
-            self.owner,
-            nameless,
-            is_given_twice(self, before),
-        )
+        keyed_refusal(self, lists, before, nameless)
     }
 }

@@ -10,9 +10,9 @@ pub returns-in_err-check_aims : goal.returns-in_err-check_aims
 returns-in_err-check_aims c = λ passed.
     let some : 0 < length c.args.lists.names.now = omega (arith, eqb-false _ 0 (sym c.if-is_empty.ensures)) in
     let p = err_from_is_err_and c.from_residual.result c.from_residual.ensures.1 in
-    rw (p.1, p.2) (stars_miss (held c.args.lists) passed some _ (c.in_err-check_aims.ensures (held c.args.lists) refl star_writes))
+    rw (p.1, p.2) (stars_miss (held c.args.lists) passed some c.in_err-check_aims.field-0.0 (cc (c.in_err-check_aims.ensures (held c.args.lists) refl star_writes, c.star_place.ensures)))
 
 pub returns : goal.returns
 returns c = λ passed.
     let some : 0 < length c.args.lists.names.now = omega (arith, eqb-false _ 0 (sym c.if-is_empty.ensures)) in
-    imports_tell (held c.args.lists) passed some (c.in_ok-check_aims.ensures (held c.args.lists) refl star_writes) c.check_aims-2.result (c.check_aims-2.ensures (held c.args.lists) refl import_writes)
+    imports_tell (held c.args.lists) passed some (cc (c.in_ok-check_aims.ensures (held c.args.lists) refl star_writes, c.star_place.ensures)) c.check_aims-2.result (rw (sym c.import_place.ensures) (c.check_aims-2.ensures (held c.args.lists) refl import_writes))

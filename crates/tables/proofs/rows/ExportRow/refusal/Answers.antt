@@ -4,5 +4,5 @@ use Rattle.tables.proofs.Refused.{export_refused}
 use Rattle.tables.proofs.rows.ExportRow.refusal.Goals as goal
 
 pub returns : goal.returns
-returns c = λ first. export_refused (held c.args.lists) (leb (length c.args.lists.names.now) c.from.result) c.is_given_twice.result c.refusal_behind.result first c.args.before.now c.args.self.now c.refusal_behind.ensures
-    (ap (leb (length c.args.lists.names.now)) c.from.ensures) c.is_given_twice.ensures
+returns c = λ first. export_refused (held c.args.lists) (leb (length c.args.lists.names.now) c.from.result) c.keyed_refusal.result first c.args.before.now c.args.self.now c.keyed_refusal.ensures
+    (ap (leb (length c.args.lists.names.now)) c.from.ensures)

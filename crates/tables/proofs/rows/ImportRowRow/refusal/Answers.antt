@@ -5,5 +5,5 @@ use Rattle.tables.proofs.Refused.{import_refused}
 use Rattle.tables.proofs.rows.ImportRowRow.refusal.Goals as goal
 
 pub returns : goal.returns
-returns c = λ first. import_refused (held c.args.lists) c.is_unknown-nameless.result c.is_given_twice.result c.refusal_behind.result first c.args.before.now c.args.self.now c.refusal_behind.ensures
-    (c.is_unknown-nameless.ensures ∙ ap (wants_unknown (length c.args.lists.names.now)) c.from.ensures) c.is_given_twice.ensures
+returns c = λ first. import_refused (held c.args.lists) c.is_unknown-nameless.result c.keyed_refusal.result first c.args.before.now c.args.self.now c.keyed_refusal.ensures
+    (c.is_unknown-nameless.ensures ∙ ap (wants_unknown (length c.args.lists.names.now)) c.from.ensures)
