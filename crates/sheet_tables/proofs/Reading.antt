@@ -2,18 +2,16 @@
 use Rattle.std.specs.List.{AllByRecursion}
 use Rattle.graph.specs.declared.fault.Reason.{Reason}
 use Rattle.graph.specs.declared.fault.Reason.TheVariants.{BadLength}
-use Rattle.std.proofs.Common.{◌≡◌, ℕ, zero, suc, ◌+◌, ◌-◌, ◌≤◌, Bool, true, false, cond, ltb, get_or, Err, Result, List, [], ◌∷◌, ◌++◌, map, length, take, drop, is_ok, Ok, unwrap_or, sym, refl, ap, ◌∙◌, subst, arith, inl, inr}
+use Rattle.std.proofs.Common.{◌≡◌, ℕ, zero, suc, ◌+◌, ◌-◌, ◌≤◌, Bool, true, false, cond, ltb, get_or, Err, Result, List, [], ◌∷◌, ◌++◌, map, length, take, drop, is_ok, Ok, unwrap_or, sym, refl, ap, ◌∙◌, subst, arith}
 use Rattle.std.proofs.ByRecursion.{All-push}
-use Rattle.std.proofs.lemmas.List.{map_push, length-map, length_push, length-take, length-drop, drop-drop}
-use Rattle.std.proofs.lemmas.Bool.{cond-true, cond_both, ltb-false, lt-ltb, cases_lt, false≢true, and_from, le-leb}
-use Rattle.graph.specs.declared.fault.Layer.TheVariants as layer
+use Rattle.std.proofs.lemmas.List.{map_push, length-map, length-take, length-drop, drop-drop}
+use Rattle.std.proofs.lemmas.Bool.{cond-true, cond_both, ltb-false, and_from, le-leb}
 use Rattle.graph.specs.declared.records.Kind.{Kind}
 use Rattle.graph.specs.declared.records.Kind.TheVariants as kind
 use Rattle.graph.specs.declared.records.Import.{Import}
 use Rattle.graph.specs.Graphs.{Graph, Module, no_records}
 use Rattle.graph.specs.Entries.{Entry, a_name, a_module, an_import, grown}
-use Rattle.graph.specs.Opening as opening
-use Rattle.graph.specs.Rules.{unless, name_entry, module_entry, of_kind, kind_number, wanted_number, wanted_numbered}
+use Rattle.graph.specs.Rules.{name_entry, module_entry, of_kind, kind_number, wanted_number, wanted_numbered}
 use Rattle.graph.specs.Opening.{Placed, latest, or_only_default}
 use Rattle.graph.specs.Soundness.{Sized, Sound}
 use Rattle.graph.proofs.Numbering.{kind_again}
@@ -123,10 +121,10 @@ module _ (bytes : List ℕ) (opens : is_ok (sheets.opened bytes) ≡ true) (h : 
     step_by : Readable (added h owner f) → meant (added h owner f) ≡ grown (meant h) (latest (meant h)) (entry_of f) → (added h owner f).bytes ≡ h.bytes → SoFar bytes (added h owner f) t
     step_by reads grows run =
         let counted : modules_after (length h.modules) (entry_of f) ≡ length (added h owner f).modules =
-            ap (λ n. modules_after n (entry_of f)) (sym (length-map h.modules (module_of h.bytes)))
-            ∙ sym (modules_grown (meant h) (entry_of f) few)
-            ∙ sym (ap (λ (g : Graph). length g.modules) grows)
-            ∙ length-map (added h owner f).modules (module_of (added h owner f).bytes) in
+        ap (λ n. modules_after n (entry_of f)) (sym (length-map h.modules (module_of h.bytes)))
+        ∙ sym (modules_grown (meant h) (entry_of f) few)
+        ∙ sym (ap (λ (g : Graph). length g.modules) grows)
+        ∙ length-map (added h owner f).modules (module_of (added h owner f).bytes) in
         record {
           run = run ∙ so.run;
           readable = reads;

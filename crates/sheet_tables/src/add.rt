@@ -13,8 +13,8 @@ use tables::owned::OwnedLists;
 pub(crate) fn add(lists: &mut OwnedLists, record: Record) -> Result<(), AllocError>
     ensures { OnOk result (kept lists.new ≡ added (kept lists.old) «record».entry.owner «record».entry.field) }
 {
-    let owner = record.owner;
-    match record.field {
+    let Record { owner, field } = record;
+    match field {
         Field::Name { bytes, offset } => {
             let len = bytes.len();
             lists.names.push(Span { offset, len })?;
