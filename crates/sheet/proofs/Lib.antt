@@ -2,7 +2,6 @@ pub mod Reading
 pub mod Stepping
 pub mod Going
 pub mod Reaching
-pub mod Owning
 pub mod Naming
 pub mod Refusing
 pub mod Advancing

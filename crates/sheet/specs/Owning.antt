@@ -1,5 +1,6 @@
 -- The records of a sheet, each with its owner.
-use Rattle.std.specs.Prelude.{ℕ, ◌+◌, ◌-◌, List, [], ◌∷◌, Some, None, Option, min}
+use Rattle.std.specs.Prelude.{◌≡◌, ℕ, ◌+◌, ◌-◌, List, [], ◌∷◌, Some, None, Ok, Option, min, IfSome}
+use Rattle.std.specs.Iterator.{YieldsFirstBy}
 use Rattle.graph.specs.declared.records.Kind.{Kind}
 use Rattle.graph.specs.declared.records.Star.{Star}
 use Rattle.graph.specs.declared.records.Import.{Import}
@@ -7,7 +8,7 @@ use Rattle.graph.specs.declared.records.Export.{Export}
 use Rattle.graph.specs.Entries.{Entry, a_name, a_module, a_star, an_import, an_export}
 use Rattle.sheet.specs.declared.records.Record.{Record}
 use Rattle.sheet.specs.declared.records.Records.{Records}
-use Rattle.sheet.specs.Borrowed.{entry_of}
+use Rattle.sheet.specs.Borrowed.{entry_of, Begins}
 use Rattle.sheet.specs.Opening.{entries_of}
 use Rattle.sheet.specs.Reading.{fields_left}
 
@@ -35,6 +36,14 @@ owned_of r = record { owner = r.owner; entry = entry_of r.field }
 -- what is left to be gone through
 abbrev pub records_left : Records → List Owned
 records_left s = owned s.modules (entries_of (fields_left s.fields))
+
+-- a record is the first field that was left, and the bytes that it borrows stand in the payload there
+abbrev pub StandsFirst : Records → Record → Records → Type 0
+StandsFirst s r t = (p : ℕ) × (fields_left s.fields ≡ record { place = p; owner = None; content = Ok (entry_of r.field) } ∷ fields_left t.fields) × Begins r.field (p + 3)
+
+-- a step gives the first record that was left, which stands in the sheet
+abbrev pub record_steps : Records → Option Record → Records → Type 0
+record_steps s r t = YieldsFirstBy owned_of records_left s r t × IfSome r (λ x. StandsFirst s x t)
 
 -- a module's kind
 abbrev pub entry_kind : Entry → Option Kind

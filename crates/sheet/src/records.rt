@@ -1,8 +1,9 @@
 ghost use Rattle.std.specs.Prelude.{◌≡◌};
-ghost use Rattle.std.specs.Iterator.{YieldsFirstBy, item_count};
+ghost use Rattle.std.specs.Iterator.{item_count};
 ghost use Rattle.sheet.specs.Borrowed.{entry_of};
-ghost use Rattle.sheet.specs.Opening.{entries};
-ghost use Rattle.sheet.specs.Owning.{modules_after, owned, owned_of, records_left, entry_kind, entry_star, entry_import, entry_export};
+ghost use Rattle.sheet.specs.Opening.{fields_at, entries};
+ghost use Rattle.sheet.specs.Owning.{modules_after, owned, records_left, record_steps, entry_kind, entry_star, entry_import, entry_export};
+ghost use Rattle.sheet.specs.Reading.{readable, fields_left};
 
 use super::field::Field;
 use super::fields::Fields;
@@ -91,7 +92,7 @@ fn modules_after(modules: u16, field: Field) -> u16
 impl<'a> Records<'a> {
     // All records of a sheet.
     pub fn of(bytes: &'a [u8]) -> Self
-        ensures { records_left result ≡ owned 0 (entries bytes.now) }
+        ensures { (records_left result ≡ owned 0 (entries bytes.now)) × (fields_left result.fields ≡ readable (fields_at bytes.now 0)) }
     {
         Records {
             fields: Fields::of(bytes),
@@ -103,7 +104,7 @@ impl<'a> Records<'a> {
 impl<'a> Iterator for Records<'a> {
     type Item = Record<'a>;
 
-    ghost next_gives = { YieldsFirstBy owned_of records_left };
+    ghost next_gives = { record_steps };
 
     ghost remaining = { item_count records_left };
 

@@ -1,14 +1,14 @@
 -- The answers of a sheet are those of its graph.
 use Rattle.std.proofs.Common.{◌≡◌, ℕ, zero, suc, ◌≤◌, Bool, true, false, cond, eqb, ltb, List, [], ◌∷◌, ◌++◌, map, length, is_ok, Some, None, Ok, Err, Option, Result, sym, refl, ap, ◌∙◌, ◌&&◌, subst, ◌+◌, ◌<◌, ◌^◌, append_assoc, arith}
 use Rattle.std.specs.Fn.{Called}
-use Rattle.std.specs.Iterator.{YieldsFirstBy, Yields}
+use Rattle.std.specs.Iterator.{Yields}
 use Rattle.std.specs.Iterator.Runs.{YieldsRun, Trigger, EachRunFrom}
 use Rattle.std.specs.declared.iter.FilterMap.{FilterMap}
 use Rattle.std.specs.Iterator.Adapters.{filter_map_source, filter_map_callee, filter_map_steps}
 use Rattle.std.specs.List.{AllByRecursion, filter_map, find, cons_option}
 use Rattle.std.specs.Option.{option_map}
 use Rattle.std.proofs.lemmas.Iterator.{YieldsList}
-use Rattle.std.proofs.lemmas.Iterator.Consumers.{YieldsList-from_first, YieldsList-from_filter_map}
+use Rattle.std.proofs.lemmas.Iterator.Consumers.{YieldsList-from_shown, YieldsList-from_filter_map}
 use Rattle.std.proofs.lemmas.Iterator.Adapters.{at_most_from_yields_List}
 use denote.Param.Members.{Mut}
 use Rattle.sheet.specs.declared.records.Record.{Record}
@@ -28,7 +28,7 @@ use Rattle.graph.specs.Opening.{Placed, latest, content_refusal, with_content, n
 use Rattle.graph.proofs.Pushing.{unless_ok}
 use Rattle.sheet.specs.Fields.{next_at}
 use Rattle.sheet.specs.Opening.{fields_from, gathered, fields_at, aims, too_long, finished, opened, graph_of, entry_then, entries_of, entries}
-use Rattle.sheet.specs.Owning.{Owned, owned, owned_of, records_left, modules_after, entry_kind, entry_star, entry_import, entry_export}
+use Rattle.sheet.specs.Owning.{Owned, owned, owned_of, records_left, record_steps, modules_after, entry_kind, entry_star, entry_import, entry_export}
 use Rattle.sheet.proofs.Soundly.{graph_sound}
 
 -- g with these records behind its own
@@ -92,7 +92,7 @@ grows g (an_import symbol target wanted) = record { kinds = refl; stars = refl; 
 grows g (an_export name symbol) = record { kinds = refl; stars = refl; imports = refl; exports = refl }
 
 -- how many modules there are
-modules_grown : (g : Graph) (e : Entry) → length (grown g (latest g) e).modules ≤ 65535 → length (grown g (latest g) e).modules ≡ modules_after (length g.modules) e
+pub modules_grown : (g : Graph) (e : Entry) → length (grown g (latest g) e).modules ≤ 65535 → length (grown g (latest g) e).modules ≡ modules_after (length g.modules) e
 modules_grown g (a_name bytes) few = refl
 modules_grown g (a_module k id) few = omega (arith, length_push g.modules (record { kind = k; id = id }))
 modules_grown g (a_star target) few = refl
@@ -106,7 +106,7 @@ no_fewer g (a_star target) = omega arith
 no_fewer g (an_import symbol target wanted) = omega arith
 no_fewer g (an_export name symbol) = omega arith
 
-built_no_fewer : (g : Graph) (es : List Entry) → length g.modules ≤ length (built g es).modules
+pub built_no_fewer : (g : Graph) (es : List Entry) → length g.modules ≤ length (built g es).modules
 built_no_fewer g [] = omega arith
 built_no_fewer g (e ∷ es) = omega (arith, no_fewer g e, built_no_fewer (grown g (latest g) e) es)
 
@@ -129,7 +129,7 @@ module _ (bytes : List ℕ) (opens : is_ok (opened bytes) ≡ true) where
       is_opened (Ok g) e = refl
       is_opened (Err f) e = absurd cc
 
-  few_modules : length (built no_records (entries bytes)).modules ≤ 65535
+  pub few_modules : length (built no_records (entries bytes)).modules ≤ 65535
   few_modules = let few = (graph_sound bytes).module_limit in omega (arith, ap (λ (g : Graph). length g.modules) sheet_built)
 
   pub kinds_are : map kind_of (graph_of bytes).modules ≡ filter_map (λ (x : Owned). entry_kind x.entry) (owned 0 (entries bytes))
@@ -145,8 +145,10 @@ module _ (bytes : List ℕ) (opens : is_ok (opened bytes) ≡ true) where
   exports_are = ap (λ (g : Graph). g.exports) sheet_built ∙ built_part (λ g. g.exports) entry_export (λ g e. (grows g e).exports) no_records (entries bytes) few_modules
 
 -- a chain that goes through a sheet's records, and picks of them what stands in a list of its graph
-pub picked : {Y F : Type 0} (pick : Owned → Option Y) {ys : List Y} {records : List Owned} {s : FilterMap Records F} (g : Mut F (Record × Unit {0}) (Option Y)) {f : F} → ys ≡ filter_map pick records → records_left (filter_map_source s) ≡ records → filter_map_callee s ≡ f → ((x : Record) (r : Option Y) (q : F) → Called g f (x, tt) r q → (q ≡ f) × (r ≡ pick (owned_of x))) → YieldsList (filter_map_steps (YieldsFirstBy owned_of records_left) g) (λ y. y) s ys
-picked pick {records = records} g are left callee picks = rw are (YieldsList-from_filter_map g pick (YieldsList-from_first owned_of records_left records left) callee picks)
+pub picked : {Y F : Type 0} (pick : Owned → Option Y) {ys : List Y} {records : List Owned} {s : FilterMap Records F} (g : Mut F (Record × Unit {0}) (Option Y)) {f : F} → ys ≡ filter_map pick records → records_left (filter_map_source s) ≡ records → filter_map_callee s ≡ f → ((x : Record) (r : Option Y) (q : F) → Called g f (x, tt) r q → (q ≡ f) × (r ≡ pick (owned_of x))) → YieldsList (filter_map_steps record_steps g) (λ y. y) s ys
+picked pick {s = s} g are left callee picks =
+    let all = YieldsList-from_shown record_steps owned_of records_left (λ t u gives. ap length gives.0.0) (λ t x u gives. gives.0) (filter_map_source s) in
+    rw are (YieldsList-from_filter_map g pick (subst (YieldsList record_steps owned_of (filter_map_source s)) left all) callee picks)
 
 -- a chain of so few may be counted
 pub may_count : {S A B : Type 0} {steps : S → Option A → S → Type 0} {v : A → B} {s : S} {ys : List B} → YieldsList steps v s ys → length ys ≤ 1024 → EachRunFrom steps s (λ p. Trigger (2 ^ 64) → 0 + p.len < 2 ^ 64)

@@ -1,19 +1,19 @@
-ghost use Rattle.std.specs.Prelude.{◌≡◌, ◌≤◌, vec_len, OnOk};
+ghost use Rattle.std.specs.Prelude.{◌≡◌, OnOk};
 ghost use Rattle.tables.specs.Owned.{kept};
 ghost use Rattle.sheet_tables.specs.Adding.{added};
 
 use graph::records::{Export, Star};
 use sheet::field::Field;
+use sheet::records::Record;
 use std::alloc::AllocError;
 use tables::lists::{ImportRow, ModuleRow, Span};
 use tables::owned::OwnedLists;
 
-// Adds the record of a field at the end of its list. It belongs to the latest module.
-pub(crate) fn add(lists: &mut OwnedLists, field: Field) -> Result<(), AllocError>
-    requires { vec_len lists.old.modules ≤ 65536 }
-    ensures { OnOk result (kept lists.new ≡ added (kept lists.old) field.entry) }
+// Adds a record at the end of its list.
+pub(crate) fn add(lists: &mut OwnedLists, record: Record) -> Result<(), AllocError>
+    ensures { OnOk result (kept lists.new ≡ added (kept lists.old) «record».entry.owner «record».entry.field) }
 {
-    let owner = lists.modules.len().saturating_sub(1) as u16;
+    let Record { owner, field } = record;
     match field {
         Field::Name { bytes, offset } => {
             let len = bytes.len();

@@ -4,7 +4,7 @@ ghost use Rattle.tables.specs.Opening.{opened as tables_opened, graph_of as tabl
 ghost use Rattle.tables.specs.Owned.{kept};
 
 use super::add::add;
-use sheet::fields::Fields;
+use sheet::records::Records;
 use sheet_source::sheets::Sheet;
 use std::alloc::{AllocError, Global};
 use tables::owned::OwnedLists;
@@ -23,11 +23,8 @@ pub fn tables_of<'a>(heap: Global, sheet: &Sheet<'a>) -> Result<OwnedLists<'a>, 
         imports: Vec::new(heap),
         exports: Vec::new(heap),
     };
-    for next in Fields::of(bytes) {
-        let Ok(field) = next.content else {
-            return Ok(lists);
-        };
-        add(&mut lists, field)?;
+    for record in Records::of(bytes) {
+        add(&mut lists, record)?;
     }
     Ok(lists)
 }

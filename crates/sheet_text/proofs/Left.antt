@@ -5,8 +5,9 @@ use Rattle.graph.specs.declared.fault.Reason.{Reason}
 use Rattle.graph.specs.Entries.{Entry}
 use Rattle.sheet.specs.declared.records.Records.{Records}
 use Rattle.sheet.specs.Fields.{next_at, field_at}
-use Rattle.sheet.specs.Opening.{entry_then, entries_of, fields_from, entries}
+use Rattle.sheet.specs.Opening.{entry_then, entries_of, fields_from, fields_at, entries}
 use Rattle.sheet.specs.Owning.{Owned, modules_after, owned, records_left}
+use Rattle.sheet.specs.Reading.{readable, fields_left}
 
 -- what they say, without their owners
 abbrev pub entries_left : Records → List Entry
@@ -17,8 +18,8 @@ without_owners modules [] = refl
 without_owners modules (e ∷ es) = ap (λ later. e ∷ later) (without_owners (modules_after modules e) es)
 
 -- before the first step these are all
-pub all_left : (s t : Records) (bytes : List ℕ) → t ≡ s → records_left s ≡ owned 0 (entries bytes) → entries_left t ≡ entries bytes
-all_left s t bytes same of = ap entries_left same ∙ ap (map (λ (r : Owned). r.entry)) of ∙ without_owners 0 (entries bytes)
+pub all_left : (s t : Records) (bytes : List ℕ) → t ≡ s → (records_left s ≡ owned 0 (entries bytes)) × (fields_left s.fields ≡ readable (fields_at bytes 0)) → entries_left t ≡ entries bytes
+all_left s t bytes same of = ap entries_left same ∙ ap (map (λ (r : Owned). r.entry)) of.0 ∙ without_owners 0 (entries bytes)
 
 few_then : (content : Result Entry Reason) (later : List Entry) (n : ℕ) → length later ≤ n → length (entry_then content later) ≤ suc n
 few_then (Ok e) later n few = omega arith

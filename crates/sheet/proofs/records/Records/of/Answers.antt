@@ -5,4 +5,4 @@ use Rattle.sheet.proofs.Reaching.{entries_readable}
 use Rattle.sheet.proofs.records.Records.of.Goals as goal
 
 pub returns : goal.returns
-returns c = ap (λ fields. owned 0 (entries_of fields)) c.of.ensures ∙ ap (owned 0) (entries_readable (fields_at c.args.bytes.now 0))
+returns c = (ap (λ fields. owned 0 (entries_of fields)) c.of.ensures ∙ ap (owned 0) (entries_readable (fields_at c.args.bytes.now 0)), c.of.ensures)
