@@ -16,7 +16,7 @@ loop-record-init g c =
 
 pub loop-record-preserved : goal.loop-record-preserved
 loop-record-preserved g c =
-    let later = ap (map (λ (r : Owned). r.entry)) c.in-Some.ensures.steps in (
+    let later = ap (map (λ (r : Owned). r.entry)) c.in-Some.ensures.steps.0 in (
       tt,
       tt,
       λ plain.
