@@ -26,9 +26,9 @@ line before e = record_text before e ++ (10 ∷ [])
 abbrev pub counts_text : Counts → List ℕ
 counts_text all = decimal all.names ++ (codes " names, " ++ (decimal all.modules ++ (codes " modules, " ++ (decimal all.stars ++ (codes " star records, " ++ (decimal all.imports ++ (codes " imports, " ++ (decimal all.exports ++ codes " exports"))))))))
 
--- the line of all counts
+-- the line of all counts, which ends in a line break
 abbrev pub summary : Counts → List ℕ
-summary all = decimal all.names ++ (codes " names, " ++ (decimal all.modules ++ (codes " modules, " ++ (decimal all.stars ++ (codes " star records, " ++ (decimal all.imports ++ (codes " imports, " ++ (decimal all.exports ++ codes " exports\n"))))))))
+summary all = counts_text all ++ (10 ∷ [])
 
 -- the lines of records that stand behind so many others
 abbrev pub lines : Counts → List Entry → List ℕ

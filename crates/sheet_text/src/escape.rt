@@ -29,7 +29,7 @@ impl fmt::Display for Escaped<'_> {
 
     fn fmt<W: fmt::Write>(&self, f: &mut fmt::Formatter<W>) -> fmt::Result {
         for byte in self.0 {
-            EscapedByte(*byte).fmt(f)?;
+            write!(f, "{}", EscapedByte(*byte))?;
         }
         Ok(())
     }
