@@ -1,4 +1,5 @@
 pub mod ItemReading
 pub mod Lines
+pub mod NumberReading
 pub mod SixParts
 pub mod Tallying

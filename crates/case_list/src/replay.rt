@@ -89,7 +89,7 @@ mod tests {
             "tables 64656661756c74 | 1:7 | | | | = opens\n    came: refused 11 at 0 in tables\n\
              tables 64656661756c74 | 0:7 = opens\n    cannot be read: not six parts\n\
              tables 64656661756c74 | 0:7:1 | | | | = opens\n    cannot be read: too many numbers\n\
-             tables 64656661756c74 | 0:7 | 256:0:1 | | | = opens\n    cannot be read: number too large to fit in target type\n"
+             tables 64656661756c74 | 0:7 | 256:0:1 | | | = opens\n    cannot be read: out of range integral type conversion attempted\n"
         );
         assert_eq!(rt; tally.to_string(heap)?.as_str(), "10 cases, 4 wrong");
         Ok(())
