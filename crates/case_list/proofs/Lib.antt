@@ -1,5 +1,5 @@
+pub mod Elements
 pub mod ItemReading
 pub mod Lines
 pub mod NumberReading
-pub mod SixParts
 pub mod Tallying

@@ -1,26 +1,10 @@
 -- The numbers of a record.
-use Rattle.std.proofs.Common.{◌≡◌, ℕ, zero, suc, ◌<◌, ◌≤◌, List, [], ◌∷◌, length, map, get_or, take, Result, Ok, refl, sym, ap, subst, ◌∙◌, arith, ◌==◌}
+use Rattle.std.proofs.Common.{◌≡◌, ℕ, ◌<◌, List, [], ◌∷◌, length, map, Result, Ok, subst, ◌==◌}
 use Rattle.std.specs.List.{AllZip, slice_split}
 use Rattle.std.specs.Str.Parse.{ParsesUnsigned, ExplainsUnsignedError, HasUnsignedDigitsIfOk}
 use Rattle.std.specs.declared.num.ParseIntError.{ParseIntError}
 use Rattle.case_list.specs.Reading.{IsNumber, AreNumbers, Numbers, AreRead}
-
--- the elements from place i on, n of them
-abbrev pub elements : {X : Type 0} → List X → X → ℕ → ℕ → List X
-elements xs d i zero = []
-elements xs d i (suc n) = get_or xs i d ∷ elements xs d (suc i) n
-
-elements_behind : {X : Type 0} (x : X) (xs : List X) (d : X) (i n : ℕ) → elements (x ∷ xs) d (suc i) n ≡ elements xs d i n
-elements_behind x xs d i zero = refl
-elements_behind x xs d i (suc n) = ap (λ ys. get_or xs i d ∷ ys) (elements_behind x xs d (suc i) n)
-
-all_elements : {X : Type 0} (xs : List X) (d : X) → xs ≡ elements xs d 0 (length xs)
-all_elements [] d = refl
-all_elements (x ∷ xs) d = ap (λ ys. x ∷ ys) (all_elements xs d ∙ sym (elements_behind x xs d 0 (length xs)))
-
--- a list of n, element by element
-pub by_elements : {X : Type 0} (n : ℕ) (xs : List X) (d : X) → length xs ≡ n → xs ≡ elements xs d 0 n
-by_elements n xs d e = all_elements xs d ∙ ap (λ k. elements xs d 0 k) e
+use Rattle.case_list.proofs.Elements.{elements, by_elements}
 
 -- a relation of what v reads in the elements
 pub zip_map : {A B C : Type 0} (R : B → C → Type 0) (v : A → B) (xs : List A) (ys : List C) → AllZip (λ x y. R (v x) y) xs ys → AllZip R (map v xs) ys
@@ -28,12 +12,6 @@ zip_map R v [] [] z = tt
 zip_map R v (x ∷ xs) (y ∷ ys) z = (z.0, zip_map R v xs ys z.1)
 zip_map R v [] (y ∷ ys) z = absurd z
 zip_map R v (x ∷ xs) [] z = absurd z
-
-pub take_all : {X : Type 0} (n : ℕ) (xs : List X) → length xs ≤ n → take n xs ≡ xs
-take_all zero [] l = refl
-take_all (suc n) [] l = refl
-take_all zero (x ∷ xs) l = absurd (omega arith)
-take_all (suc n) (x ∷ xs) l = ap (λ ys. x ∷ ys) (take_all n xs (omega arith))
 
 -- what reading a number of so many bits gives
 abbrev Parses : ℕ → List ℕ → Result ℕ ParseIntError → Type 0

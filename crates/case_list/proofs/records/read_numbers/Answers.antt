@@ -1,9 +1,10 @@
 use Rattle.std.proofs.Common.{◌≡◌, ◌∙◌, ap, subst, map, rules, Ok, length, ◌≤◌}
 use Rattle.std.specs.List.{AllZip}
+use Rattle.std.proofs.lemmas.List.{take_all}
 use Rattle.std.proofs.lemmas.Slice.Zip.{all_zipped_more}
 use Rattle.std.proofs.lemmas.Iterator.{YieldsList-from_slice, YieldsList-from_take}
 use Rattle.std.proofs.lemmas.Iterator.Consumers.{YieldsList-at, YieldsList-end}
-use Rattle.case_list.proofs.NumberReading.{zip_map, take_all}
+use Rattle.case_list.proofs.NumberReading.{zip_map}
 use Rattle.case_list.proofs.records.read_numbers.Goals as goal
 
 pub loop-part-preserved : goal.loop-part-preserved
