@@ -1,4 +1,5 @@
+pub mod Elements
 pub mod ItemReading
 pub mod Lines
-pub mod SixParts
+pub mod NumberReading
 pub mod Tallying

@@ -1,6 +1,6 @@
 -- How a list writes sheets and tables.
-use Rattle.std.specs.Prelude.{◌≡◌, ℕ, ◌<◌, Bool, List, [], ◌∷◌, ◌++◌, length, Ok, ◌==◌, ◌&&◌, ◌||◌, nat_le}
-use Rattle.std.specs.List.{before_first, after_first, position_or_len, repeat, slice_split, AllPass}
+use Rattle.std.specs.Prelude.{◌≡◌, ℕ, ◌<◌, Bool, List, [], ◌∷◌, ◌++◌, length, Result, Ok, ◌==◌, ◌&&◌, ◌||◌, nat_le}
+use Rattle.std.specs.List.{before_first, after_first, position_or_len, repeat, slice_split, AllPass, AllZip}
 use Rattle.std.specs.Char.{is_whitespace, is_not_whitespace}
 use Rattle.std.specs.Str.{NoCharPasses, EmptyOrStartsWithPassing}
 use Rattle.std.specs.Str.Parse.{ParsesUnsigned}
@@ -25,6 +25,10 @@ AreNumbers [] [] = Unit
 AreNumbers [] (n ∷ ns) = ⊥
 AreNumbers (text ∷ texts) [] = ⊥
 AreNumbers (text ∷ texts) (n ∷ ns) = IsNumber n.0 text n.1 × AreNumbers texts ns
+
+-- the parts of the text, with `:` between them, are read as these numbers, where `gives` says what reading a part may give
+abbrev pub AreRead : {N E : Type 0} → (List ℕ → Result N E → Type 0) → List ℕ → List N → Type 0
+AreRead gives text ns = AllZip (λ part n. gives part (Ok n)) (slice_split (λ b. b == 58) text) ns
 
 -- the numbers, with `:` between them
 abbrev pub Numbers : List ℕ → List (ℕ × ℕ) → Type 0

@@ -5,7 +5,7 @@ ghost use Rattle.case_list.specs.Answers.{answer_text};
 
 use crate::answer::Answer;
 use crate::subject::Subject;
-use anyhow::anyhow;
+use anyhow::Context;
 use std::alloc::Global;
 
 // A line of a list, `SUBJECT = EXPECTED`.
@@ -21,13 +21,9 @@ impl<'a> Case<'a> {
         ensures subject { IfOk result (λ case. case.subject.now ≡ subject_of line.now) }
         ensures expected { IfOk result (λ case. case.expected.now ≡ expected_of line.now) }
     {
-        match line.split_once('=') {
-            Some((subject, expected)) => {
-                let expected = expected.trim();
-                Ok(Case { subject, expected })
-            }
-            None => Err(anyhow!("no `=`")),
-        }
+        let (subject, expected) = line.split_once('=').context("no `=`")?;
+        let expected = expected.trim();
+        Ok(Case { subject, expected })
     }
 
     // What opening the subject gives, if that is not what the line expects.
@@ -36,10 +32,6 @@ impl<'a> Case<'a> {
     {
         let answer = Answer(S::open(heap, self.subject)?);
         let text = answer.to_string(heap)?;
-        if text.as_str() == self.expected {
-            Ok(None)
-        } else {
-            Ok(Some(answer))
-        }
+        Ok((text.as_str() != self.expected).then_some(answer))
     }
 }

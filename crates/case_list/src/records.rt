@@ -1,25 +1,22 @@
 // The records of tables, each written as its numbers with `:` between them.
-ghost use Rattle.case_list.specs.Reading.{SpellsSpan, SpellsModule, SpellsStar, SpellsImport, SpellsExport};
+ghost use Rattle.std.specs.Prelude.{IfOk};
+ghost use Rattle.case_list.specs.Reading.{AreRead, SpellsSpan, SpellsModule, SpellsStar, SpellsImport, SpellsExport};
 
 use crate::items::Item;
 use crate::parts::parts_between;
 use anyhow::anyhow;
 use graph::records::{Export, Star};
 use std::alloc::Global;
+use std::error::Error;
+use std::str::FromStr;
 use tables::lists::{ImportRow, ModuleRow, Span};
 
 impl Item for Span {
     ghost spells = { SpellsSpan };
 
     fn parse(heap: Global, text: &str) -> anyhow::Result<Vec<Span>> {
-        let parts = parts_between(heap, text, ':')?;
-        let [offset, len] = parts.as_slice() else {
-            return Err(wrong_count(parts.len(), 2));
-        };
-        let name = Span {
-            offset: offset.parse()?,
-            len: len.parse()?,
-        };
+        let [offset, len] = read_numbers::<usize, 2>(heap, text)?;
+        let name = Span { offset, len };
         Ok(vec![in heap; name]?)
     }
 }
@@ -28,17 +25,10 @@ impl Item for ModuleRow {
     ghost spells = { SpellsModule };
 
     fn parse(heap: Global, text: &str) -> anyhow::Result<Vec<ModuleRow>> {
-        let parts = parts_between(heap, text, ':')?;
-        let [kind, offset, len] = parts.as_slice() else {
-            return Err(wrong_count(parts.len(), 3));
-        };
-        let module = ModuleRow {
-            kind: kind.parse()?,
-            id: Span {
-                offset: offset.parse()?,
-                len: len.parse()?,
-            },
-        };
+        let [kind, offset, len] = read_numbers::<usize, 3>(heap, text)?;
+        let kind = u8::try_from(kind)?;
+        let id = Span { offset, len };
+        let module = ModuleRow { kind, id };
         Ok(vec![in heap; module]?)
     }
 }
@@ -47,14 +37,8 @@ impl Item for Star {
     ghost spells = { SpellsStar };
 
     fn parse(heap: Global, text: &str) -> anyhow::Result<Vec<Star>> {
-        let parts = parts_between(heap, text, ':')?;
-        let [owner, target] = parts.as_slice() else {
-            return Err(wrong_count(parts.len(), 2));
-        };
-        let star = Star {
-            owner: owner.parse()?,
-            target: target.parse()?,
-        };
+        let [owner, target] = read_numbers::<u16, 2>(heap, text)?;
+        let star = Star { owner, target };
         Ok(vec![in heap; star]?)
     }
 }
@@ -63,15 +47,12 @@ impl Item for ImportRow {
     ghost spells = { SpellsImport };
 
     fn parse(heap: Global, text: &str) -> anyhow::Result<Vec<ImportRow>> {
-        let parts = parts_between(heap, text, ':')?;
-        let [owner, symbol, target, name] = parts.as_slice() else {
-            return Err(wrong_count(parts.len(), 4));
-        };
+        let [owner, symbol, target, name] = read_numbers::<u16, 4>(heap, text)?;
         let import = ImportRow {
-            owner: owner.parse()?,
-            symbol: symbol.parse()?,
-            target: target.parse()?,
-            name: name.parse()?,
+            owner,
+            symbol,
+            target,
+            name,
         };
         Ok(vec![in heap; import]?)
     }
@@ -81,24 +62,33 @@ impl Item for Export {
     ghost spells = { SpellsExport };
 
     fn parse(heap: Global, text: &str) -> anyhow::Result<Vec<Export>> {
-        let parts = parts_between(heap, text, ':')?;
-        let [owner, name, symbol] = parts.as_slice() else {
-            return Err(wrong_count(parts.len(), 3));
-        };
+        let [owner, name, symbol] = read_numbers::<u16, 3>(heap, text)?;
         let export = Export {
-            owner: owner.parse()?,
-            name: name.parse()?,
-            symbol: symbol.parse()?,
+            owner,
+            name,
+            symbol,
         };
         Ok(vec![in heap; export]?)
     }
 }
 
-// What is wrong with a record of so many numbers, which should have others.
-fn wrong_count(count: usize, wanted: usize) -> anyhow::Error {
-    if count < wanted {
-        anyhow!("too few numbers")
-    } else {
-        anyhow!("too many numbers")
+// The N numbers of a record.
+fn read_numbers<T: FromStr + Copy, const N: usize>(
+    heap: Global,
+    text: &str,
+) -> anyhow::Result<[T; N]>
+where
+    T::Err: Error,
+    ensures { IfOk result (λ numbers. AreRead T.from_str_gives text.now numbers) }
+{
+    let parts = parts_between(heap, text, ':')?;
+    let mut numbers = Vec::new(heap);
+    for part in parts.iter().take(N) {
+        numbers.push(part.parse()?)?;
+    }
+    match <[T; N]>::try_from(numbers.as_slice()) {
+        Err(_) => Err(anyhow!("too few numbers")),
+        Ok(_) if parts.len() > N => Err(anyhow!("too many numbers")),
+        Ok(numbers) => Ok(numbers),
     }
 }

@@ -6,7 +6,8 @@ use crate::complaint::check_line;
 use crate::subject::Subject;
 use crate::tally::Tally;
 use std::alloc::Global;
-use std::io::{BufRead, Write};
+use std::io;
+use std::io::{BufRead, BufReader, Write};
 
 // Replays a list, and writes each line that comes out wrong to `out`, with what is wrong with it. Lines that begin with
 // `#` are headings. No clause says what is written.
@@ -30,6 +31,15 @@ pub fn replay<S: Subject, L: BufRead + Drop>(
         }
     }
     Ok(tally)
+}
+
+// Replays the list on standard input, and prints each line that comes out wrong, and the tally. No clause says what is
+// printed.
+pub fn replay_input<S: Subject>(rt: &(impl Input + AllocGlobal + Print)) -> anyhow::Result<()> {
+    let list = BufReader::new(rt.alloc(), rt.reader())?;
+    let tally = replay::<S, _>(rt.alloc(), list, &mut io::writer(rt))?;
+    rt.println(tally)?;
+    Ok(())
 }
 
 #[cfg(test)]
@@ -89,7 +99,7 @@ mod tests {
             "tables 64656661756c74 | 1:7 | | | | = opens\n    came: refused 11 at 0 in tables\n\
              tables 64656661756c74 | 0:7 = opens\n    cannot be read: not six parts\n\
              tables 64656661756c74 | 0:7:1 | | | | = opens\n    cannot be read: too many numbers\n\
-             tables 64656661756c74 | 0:7 | 256:0:1 | | | = opens\n    cannot be read: number too large to fit in target type\n"
+             tables 64656661756c74 | 0:7 | 256:0:1 | | | = opens\n    cannot be read: out of range integral type conversion attempted\n"
         );
         assert_eq!(rt; tally.to_string(heap)?.as_str(), "10 cases, 4 wrong");
         Ok(())

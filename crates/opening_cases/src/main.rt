@@ -3,18 +3,9 @@
 // a line reads.
 #![tactic(auto)]
 
-use case_list::replay::replay;
+use case_list::replay::replay_input;
 use case_list::subject::SheetOrTables;
-use std::io;
-use std::io::BufReader;
-
-fn run(rt: &(impl Input + AllocGlobal + Print)) -> anyhow::Result<()> {
-    let list = BufReader::new(rt.alloc(), rt.reader())?;
-    let tally = replay::<SheetOrTables, _>(rt.alloc(), list, &mut io::writer(rt))?;
-    rt.println(tally)?;
-    Ok(())
-}
 
 fn main(rt: HostRuntime) -> anyhow::Result<()> {
-    run(&rt)
+    replay_input::<SheetOrTables>(&rt)
 }

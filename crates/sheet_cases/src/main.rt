@@ -2,18 +2,9 @@
 // expected ones. tools/sheet_cases.py writes the list and says how a line reads.
 #![tactic(auto)]
 
-use case_list::replay::replay;
+use case_list::replay::replay_input;
 use case_list::subject::SheetAlone;
-use std::io;
-use std::io::BufReader;
-
-fn run(rt: &(impl Input + AllocGlobal + Print)) -> anyhow::Result<()> {
-    let list = BufReader::new(rt.alloc(), rt.reader())?;
-    let tally = replay::<SheetAlone, _>(rt.alloc(), list, &mut io::writer(rt))?;
-    rt.println(tally)?;
-    Ok(())
-}
 
 fn main(rt: HostRuntime) -> anyhow::Result<()> {
-    run(&rt)
+    replay_input::<SheetAlone>(&rt)
 }
