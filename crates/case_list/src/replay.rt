@@ -6,8 +6,7 @@ use crate::complaint::check_line;
 use crate::subject::Subject;
 use crate::tally::Tally;
 use std::alloc::Global;
-use std::io;
-use std::io::{BufRead, BufReader, Write};
+use std::io::{BufRead, Write};
 
 // Replays a list, and writes each line that comes out wrong to `out`, with what is wrong with it. Lines that begin with
 // `#` are headings. No clause says what is written.
@@ -31,15 +30,6 @@ pub fn replay<S: Subject, L: BufRead + Drop>(
         }
     }
     Ok(tally)
-}
-
-// Replays the list on standard input, and prints each line that comes out wrong, and the tally. No clause says what is
-// printed.
-pub fn replay_input<S: Subject>(rt: &(impl Input + AllocGlobal + Print)) -> anyhow::Result<()> {
-    let list = BufReader::new(rt.alloc(), rt.reader())?;
-    let tally = replay::<S, _>(rt.alloc(), list, &mut io::writer(rt))?;
-    rt.println(tally)?;
-    Ok(())
 }
 
 #[cfg(test)]

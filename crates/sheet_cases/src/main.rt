@@ -2,9 +2,20 @@
 // expected ones. tools/sheet_cases.py writes the list and says how a line reads.
 #![tactic(auto)]
 
-use case_list::replay::replay_input;
+use case_list::replay::replay;
 use case_list::subject::SheetAlone;
+use std::io;
+use std::io::BufReader;
+
+// Each program has its own: a public function of `case_list` gets a contract, and no clause can speak of what a program
+// reads and prints.
+fn run(rt: &(impl Input + AllocGlobal + Print)) -> anyhow::Result<()> {
+    let list = BufReader::new(rt.alloc(), rt.reader())?;
+    let tally = replay::<SheetAlone, _>(rt.alloc(), list, &mut io::writer(rt))?;
+    rt.println(tally)?;
+    Ok(())
+}
 
 fn main(rt: HostRuntime) -> anyhow::Result<()> {
-    replay_input::<SheetAlone>(&rt)
+    run(&rt)
 }
