@@ -66,7 +66,8 @@ impl<'a> FieldAt<'a> {
     }
 }
 
-// The number in the two bytes from `at`, the higher byte first.
+// The number in the two bytes from `at`, the higher byte first. The format tells numbers by their places in a payload,
+// and a pattern of six bytes with their names would be no plainer.
 pub(crate) fn two_bytes(bytes: &[u8], at: usize) -> u16
     requires { at + 1 < length bytes.now }
     ensures { result ≡ two bytes.now at }

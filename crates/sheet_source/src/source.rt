@@ -19,7 +19,8 @@ impl<'a> Sheet<'a> {
         Ok(Sheet { bytes })
     }
 
-    // A sheet for any bytes: where these are refused, one with the name `default` and no module.
+    // A sheet for any bytes: where these are refused, one with the name `default` and no module. Not a `From`, whose name
+    // would not say so.
     pub fn of(bytes: &'a [u8]) -> Self
         ensures { graph_of result.bytes.now ≡ graph_of bytes.now }
     {

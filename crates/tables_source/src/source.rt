@@ -31,7 +31,8 @@ impl<'a> Tables<'a> {
         Ok(Tables { lists })
     }
 
-    // Tables for any lists: where these are refused, those with the name `default` and no module.
+    // Tables for any lists: where these are refused, those with the name `default` and no module. Not a `From`, whose name
+    // would not say so.
     pub fn of(lists: Lists<'a>) -> Self
         ensures { graph_of (held result.lists) ≡ graph_of (held lists.entry) }
     {
