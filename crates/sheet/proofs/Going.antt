@@ -1,10 +1,8 @@
 -- The fields that are left, behind one more.
-use Rattle.std.proofs.Common.{◌≡◌, ℕ, ◌<◌, cond, List, [], ◌∷◌, length, is_ok, Ok, Err, Result, refl, sym, ap, ◌∙◌, arith}
+use Rattle.std.proofs.Common.{◌≡◌, ℕ, ◌<◌, cond, List, [], ◌∷◌, length, is_ok, Ok, Err, refl, sym, ap, ◌∙◌, arith}
 use Rattle.graph.specs.declared.fault.Reason.{Reason}
 use Rattle.graph.specs.Entries.{Entry}
 use Rattle.graph.specs.Opening.{Placed}
-use Rattle.sheet.specs.declared.field.Field.{Field}
-use Rattle.sheet.specs.Borrowed.{entry_of, content_of}
 use Rattle.sheet.specs.Fields.{next_at, field_at}
 use Rattle.sheet.specs.Opening.{fields_at}
 use Rattle.sheet.specs.Reading.{readable}
@@ -16,14 +14,6 @@ module _ (bytes : List ℕ) (p q : ℕ) (inside : p < length bytes) where
 
   pub readable_last : (r : Reason) → field_at bytes p ≡ Err r → readable (fields_at bytes p) ≡ field p (Err r) ∷ readable (fields_at bytes (length bytes))
   readable_last r read = ap readable (fields_more bytes p inside) ∙ rw (read, fields_done bytes (length bytes) (omega arith)) refl
-
--- what is left begins with a field that can be read, or with one that cannot
-module _ (left later : List Placed) (place : ℕ) (content : Result Field Reason) (steps : left ≡ field place (content_of content) ∷ later) where
-  pub begins_ok : (f : Field) → content ≡ Ok f → left ≡ field place (Ok (entry_of f)) ∷ later
-  begins_ok f is = steps ∙ ap (λ c. field place (content_of c) ∷ later) is
-
-  pub begins_err : (r : Reason) → content ≡ Err r → left ≡ field place (Err r) ∷ later
-  begins_err r is = steps ∙ ap (λ c. field place (content_of c) ∷ later) is
 
 -- behind a field that cannot be read nothing is left
 pub nothing_behind : (fields : List Placed) (x : Placed) (later : List Placed) (r : Reason) → readable fields ≡ x ∷ later → x.content ≡ Err r → later ≡ []
