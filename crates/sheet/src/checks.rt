@@ -139,7 +139,7 @@ impl<'a> Progress<'a> {
     }
 }
 
-// Checks the fields behind the names, one by one.
+// Checks the fields behind the names, one by one. What is left is handed on, so it goes by `next`.
 fn check_records(names: Names) -> Result<Progress, Fault>
     ensures { (all : List Placed) → Head all names.entry.count (fields_left names.entry.behind) → MatchResult result (λ (s : Progress). (g : Graph) × Counted s g × (gathered no_records all ≡ Ok g)) (λ f. gathered no_records all ≡ Err f) }
 {

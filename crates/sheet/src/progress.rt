@@ -14,7 +14,8 @@ pub struct Progress<'a> {
     pub exports: usize,
     // of the modules; opening takes no memory from the heap
     pub kinds: ArrayVec<Kind, MOST_MODULES>,
-    // the fields behind the latest module, and how many of them were its records: `take` of the two is what is asked
+    // the fields behind the latest module, and how many of them were its records; a type for the two would have one
+    // method, `take`, which the iterator has
     pub own: Fields<'a>,
     pub owned: usize,
     ghost few_stars: { stars ≤ 1024 },

@@ -27,6 +27,7 @@ impl Aimed for Star {
     }
 }
 
+// One comparison, which opening a sheet has too: a function of `graph` around it would be no plainer.
 impl Aimed for ImportRow {
     ghost entry = { import_entry };
 

@@ -15,9 +15,9 @@ pub struct ModuleRow {
     pub id: Span,
 }
 
-// An import of module `owner`, bound there to `symbol`. The name is a number, as the format of tables writes it, 65535
-// for the whole namespace: a `Wanted` could not be written as the format has it. Opening refuses a number that no name
-// has.
+// An import of module `owner`, bound there to `symbol`. The name is a number, 65535 for the whole namespace, since the
+// format of tables has it so: with a `Wanted` there would be two ways to write the number. Opening refuses a number that
+// no name has.
 #[derive(Clone, Copy, PartialEq, Eq, Debug)]
 pub struct ImportRow {
     pub owner: u16,
