@@ -28,10 +28,6 @@ Adds Gives line k j = (ls : List (List ℕ)) (c w : ℕ) → Tallied Gives ls c 
 same_tally : {Gives : List ℕ → Result Unit Fault → Type 0} {ls : List (List ℕ)} (c w d v : ℕ) → c ≡ d → w ≡ v → Tallied Gives ls c w → Tallied Gives ls d v
 same_tally {Gives} {ls} c w d v e f t = subst (λ x. Tallied Gives ls d x) f (subst (λ x. Tallied Gives ls x w) e t)
 
-pub tallying_begins : (Gives : List ℕ → Result Unit Fault → Type 0) (list left : Option (List ℕ)) (cases wrong : ℕ) → left ≡ list → cases ≡ 0 → wrong ≡ 0 → TallyingKnown Gives list left cases wrong
-tallying_begins Gives None left cases wrong e z y = tt
-tallying_begins Gives (Some bytes) left cases wrong e z y = record { rest = bytes; known = e; adds = λ c w t. same_tally c w (c + cases) (w + wrong) (omega arith) (omega arith) t }
-
 pub heading_adds : (Gives : List ℕ → Result Unit Fault → Type 0) (line : List ℕ) → is_heading line ≡ true → Adds Gives line 0 0
 heading_adds Gives line h ls c w t = same_tally c w (c + 0) (w + 0) (omega arith) (omega arith) (a_heading h t)
 

@@ -1,11 +1,7 @@
 use Rattle.std.proofs.Common.{◌≡◌, false, true, rules, arith, string_bytes}
 use Rattle.case_list.specs.Replaying.{is_heading}
-use Rattle.case_list.proofs.Tallying.{tallying_begins, heading_adds, case_adds, tallying_goes_on, tallying_ends}
+use Rattle.case_list.proofs.Tallying.{heading_adds, case_adds, tallying_goes_on, tallying_ends}
 use Rattle.case_list.proofs.replay.replay.Goals as goal
-
-pub loop-line-init : goal.loop-line-init
-loop-line-init g c =
-    (omega arith, tallying_begins _ _ _ _ _ (search rules) c.new-tally.ensures.cases c.new-tally.ensures.wrong)
 
 pub loop-line-preserved-then-starts_with : goal.loop-line-preserved-then-starts_with
 loop-line-preserved-then-starts_with g c =
