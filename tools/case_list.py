@@ -1,4 +1,4 @@
-"""Bytes as chunks, and a list of cases, for tables_cases.py (sheet_cases.py has its own).
+"""Bytes as chunks, for sheet_cases.py and tables_cases.py, and a list of cases, for the latter.
 
 A chunk is a pair: bytes, and how often they stand in a row. It is written in hex, with `*`
 and the count where that is more than 1.

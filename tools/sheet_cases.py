@@ -42,6 +42,8 @@ import sys
 from collections import Counter
 from itertools import permutations
 
+from case_list import flat, read_back, written
+
 TOTAL = 60000
 NAMES, MODULES, RECORDS = 1024, 256, 1024
 NAMESPACE = 65535
@@ -217,23 +219,6 @@ def filled_name(size, head=b"", tail=b""):
 def filled_module(kind, size):
     """A module whose id has `size` bytes."""
     return [(bytes([MODULE]) + two(1 + size) + bytes([kind]), 1), (b"m", size)]
-
-
-def flat(chunks):
-    return b"".join(part * count for part, count in chunks)
-
-
-def written(chunks):
-    kept = [(part, count) for part, count in chunks if part and count]
-    return " ".join(part.hex() + ("*%d" % n if n > 1 else "") for part, n in kept)
-
-
-def read_back(text):
-    out = b""
-    for chunk in text.split():
-        digits, _, count = chunk.partition("*")
-        out += bytes.fromhex(digits) * int(count or 1)
-    return out
 
 
 # The list --------------------------------------------------------------------------------
