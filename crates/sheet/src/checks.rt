@@ -61,8 +61,9 @@ impl<'a> Progress<'a> {
         ensures { result ≡ clashes (entry_of field.entry) (take self.now.owned (fields_left self.now.own)) }
     {
         self.own
+            .map(|earlier| clashes_with(field, earlier))
             .take(self.owned)
-            .any(|earlier| clashes_with(field, earlier))
+            .any(|clashes| clashes)
     }
 
     // Why a star record, an import or an export is refused, where there are `count` of its sort.

@@ -76,6 +76,7 @@ pub(crate) fn two_bytes(bytes: &[u8], at: usize) -> u16
 }
 
 // The field that begins at `at`. What is promised speaks of the bytes and of the place, so both are parameters here.
+#[inline(always)]
 pub fn read_field(bytes: &[u8], at: usize) -> Result<Read<'_>, Fault>
     ensures { MatchResult result (λ (f : Read). (field_at bytes.now at ≡ Ok (entry_of f.field)) × (f.next ≡ next_at bytes.now at) × (f.next ≤ length bytes.now) × Begins f.field (at + 3)) (λ (e : Fault). (field_at bytes.now at ≡ Err e.reason) × (e ≡ fault_at e.reason at)) }
 {

@@ -29,6 +29,7 @@ impl<'a> Iterator for Fields<'a> {
 
     ghost remaining = { item_count fields_left };
 
+    #[inline(always)]
     fn next(&mut self) -> Option<FieldAt<'a>> {
         let place = self.at;
         if place >= self.bytes.len() {
