@@ -8,8 +8,9 @@ use crate::tally::Tally;
 use std::alloc::Global;
 use std::io::{BufRead, Write};
 
-// Replays a list, and writes each line that comes out wrong to `out`, with what is wrong with it. Lines that begin with
-// `#` are headings. No clause says what is written.
+// Replays a list, and writes each line that comes out wrong to `out`, with what is wrong with it, and flushes it there, so
+// that a buffered writer hands it on whole. With no memory for the complaint it fails, before the line is written. Lines
+// that begin with `#` are headings. No clause says what is written.
 pub fn replay<S: Subject, L: BufRead + Drop>(
     heap: Global,
     list: L,
@@ -26,7 +27,9 @@ pub fn replay<S: Subject, L: BufRead + Drop>(
         let complaint = check_line::<S>(heap, line.as_str());
         tally.count(complaint.is_some());
         if let Some(complaint) = complaint {
+            let complaint = complaint.to_string(heap)?;
             writeln!(out, "{line}\n    {complaint}")?;
+            out.flush()?;
         }
     }
     Ok(tally)
