@@ -11,8 +11,10 @@ use super::records::{Export, Import, Kind};
 pub trait ModuleSource {
     ghost graph: { Self → Graph };
 
+    // The number of modules. The law below does not reach a caller that has a `&dyn ModuleSource`, so a clause says it too.
     fn module_count(&self) -> usize
-        ensures { result ≡ length (graph self.now).modules };
+        ensures value { result ≡ length (graph self.now).modules }
+        ensures sound { Sound (graph self.now) };
 
     fn import_count(&self) -> usize
         ensures { result ≡ length (graph self.now).imports };

@@ -1,4 +1,4 @@
-ghost use Rattle.std.specs.Prelude.{◌≡◌, Err, MatchResult};
+ghost use Rattle.std.specs.Prelude.{◌≡◌, ◌≤◌, Err, MatchResult};
 ghost use Rattle.sheet.specs.Opening.{opened, graph_of, entries};
 ghost use Rattle.sheet.specs.Owning.{owned, records_left};
 ghost use Rattle.sheet.proofs.Soundly.{graph_sound};
@@ -100,6 +100,13 @@ mod tests {
         \x02\x00\x02\x00d\x05\x00\x04\x00\x01\x00\x09\
         \x02\x00\x02\x01e";
 
+    // The number of modules of a source behind a `dyn`, whose graph is sound too.
+    fn few_modules(source: &dyn ModuleSource) -> usize
+        ensures { result ≤ 256 }
+    {
+        source.module_count()
+    }
+
     #[test]
     fn answers_from_its_graph(rt: HostRuntime) {
         let sheet = Sheet::of(SAMPLE);
@@ -133,6 +140,11 @@ mod tests {
         assert_eq!(rt; sheet.import(1), None);
         assert_eq!(rt; sheet.exported_symbol(1, 1), None);
         assert_eq!(rt; sheet.import_behind(1, 5), None);
+    }
+
+    #[test]
+    fn a_dyn_source_has_few_modules(rt: HostRuntime) {
+        assert_eq!(rt; few_modules(&Sheet::of(SAMPLE)), 5);
     }
 
     #[test]

@@ -13,4 +13,7 @@ pub count-requires-clause-fits : goal.count-requires-clause-fits
 count-requires-clause-fits c = inr (may_count (picked (λ (x : Owned). entry_kind x.entry) _ (kinds_are c.args.self.now.bytes.now c.args.self.now.opens) (ap records_left c.filter_map.ensures.source ∙ c.records.ensures) c.filter_map.ensures.closure (λ x r q k. search (rules, tests))) (omega (arith, length-map (graph_of c.args.self.now.bytes.now).modules kind_of, (graph_sound c.args.self.now.bytes.now).module_limit)))
 
 pub returns : goal.returns
-returns c = count_from_yields_List c.filter_map.result c.count.result c.count.ensures.ran (picked (λ (x : Owned). entry_kind x.entry) _ (kinds_are c.args.self.now.bytes.now c.args.self.now.opens) (ap records_left c.filter_map.ensures.source ∙ c.records.ensures) c.filter_map.ensures.closure (λ x r q k. search (rules, tests))) ∙ length-map (graph_of c.args.self.now.bytes.now).modules kind_of
+returns c = record {
+  value = count_from_yields_List c.filter_map.result c.count.result c.count.ensures.ran (picked (λ (x : Owned). entry_kind x.entry) _ (kinds_are c.args.self.now.bytes.now c.args.self.now.opens) (ap records_left c.filter_map.ensures.source ∙ c.records.ensures) c.filter_map.ensures.closure (λ x r q k. search (rules, tests))) ∙ length-map (graph_of c.args.self.now.bytes.now).modules kind_of;
+  sound = graph_sound c.args.self.now.bytes.now;
+}
