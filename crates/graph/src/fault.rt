@@ -43,6 +43,17 @@ pub enum Layer {
 }
 
 impl Layer {
+    pub fn name(self) -> &'static str
+        ensures { result.now ≡ layer_name self }
+    {
+        match self {
+            Layer::Sheet => "sheet",
+            Layer::Tables => "tables",
+            Layer::Link => "link",
+            Layer::Listing => "listing",
+        }
+    }
+
     // A fault that this layer found.
     pub fn fault(self, reason: Reason, place: usize) -> Fault
         ensures { result ≡ fault_in self reason place }
@@ -60,12 +71,7 @@ impl fmt::Display for Layer {
     ghost output = { λ layer. Some (layer_name layer) };
 
     fn fmt<W: fmt::Write>(&self, f: &mut fmt::Formatter<W>) -> fmt::Result {
-        f.write_str(match self {
-            Layer::Sheet => "sheet",
-            Layer::Tables => "tables",
-            Layer::Link => "link",
-            Layer::Listing => "listing",
-        })
+        f.write_str(self.name())
     }
 }
 
