@@ -1,7 +1,6 @@
-use Rattle.std.proofs.Common.{◌≡◌, sym, subst, rules}
-use Rattle.sheet.specs.Opening.{entries, fields_at}
-use Rattle.sheet.specs.Owning.{owned, records_left}
-use Rattle.sheet.specs.Reading.{fields_left, readable}
+use Rattle.std.proofs.Common.{sym, subst, rules}
+use Rattle.sheet.specs.Opening.{fields_at}
+use Rattle.sheet.proofs.Reaching.{entries_readable}
 use Rattle.tables.specs.Owned.{kept}
 use Rattle.sheet_tables.proofs.Reading.{SoFar, start, step, finish}
 use Rattle.sheet_tables.proofs.read.tables_of.Goals as goal
@@ -9,8 +8,8 @@ use Rattle.sheet_tables.proofs.read.tables_of.Goals as goal
 pub loop-record-init : goal.loop-record-init
 loop-record-init c =
     let bytes = c.args.sheet.now.bytes.now in
-    let all = subst (λ s. (records_left s ≡ owned 0 (entries bytes)) × (fields_left s.fields ≡ readable (fields_at bytes 0))) (sym c.into_iter-record-iterator.ensures.into_iter_gives) c.of-record-items.ensures in
-    (tt, tt, start bytes _ _ (search rules) all)
+    let says = entries_readable (fields_at bytes 0) in
+    (tt, tt, start bytes _ _ (search rules) (search rules))
 
 pub loop-record-preserved : goal.loop-record-preserved
 loop-record-preserved c =
