@@ -14,10 +14,10 @@ some_told false y o = refl
 
 module _ {X Y : Type 0} (F : List X → Option Y) (test : X → Bool) (f : X → Y) (none : F [] ≡ None) (step : (x : X) (xs : List X) → F (x ∷ xs) ≡ cond (test x) (Some (f x)) (F xs)) where
   -- one element more at the end
-  found_push : (xs : List X) (x : X) → is_some (F (xs ++ (x ∷ []))) ≡ (is_some (F xs) || test x)
+  pub found_push : (xs : List X) (x : X) → is_some (F (xs ++ (x ∷ []))) ≡ (is_some (F xs) || test x)
   found_push = or_push (λ l. is_some (F l)) test (ap is_some none) (λ x xs. ap is_some (step x xs) ∙ some_told (test x) (f x) (F xs))
 
-  found_none : (xs : List X) → AllByRecursion (λ x. test x ≡ false) xs → F xs ≡ None
+  pub found_none : (xs : List X) → AllByRecursion (λ x. test x ≡ false) xs → F xs ≡ None
   found_none [] all = none
   found_none (x ∷ xs) all = step x xs ∙ ap (λ b. cond b (Some (f x)) (F xs)) all.0 ∙ found_none xs all.1
 

@@ -11,10 +11,10 @@ use Rattle.graph.specs.Lookups.{owned_by, first_keyed}
 use Rattle.graph.specs.Soundness.{Rising}
 
 -- what holds of the places below n, and from n on
-all_front : {X : Type 0} (P : X → Type 0) (xs : List X) (n : ℕ) → n ≤ length xs → AllWithin P xs 0 n → AllByRecursion P (take n xs)
+pub all_front : {X : Type 0} (P : X → Type 0) (xs : List X) (n : ℕ) → n ≤ length xs → AllWithin P xs 0 n → AllByRecursion P (take n xs)
 all_front P xs n le each = all_from_every P (take n xs) (λ k d low high. let len = length-take n xs in rw (get_or-take n xs k d (omega arith)) (each k d (omega arith) (omega arith)))
 
-all_back : {X : Type 0} (P : X → Type 0) (xs : List X) (n : ℕ) → n ≤ length xs → AllWithin P xs n (length xs) → AllByRecursion P (drop n xs)
+pub all_back : {X : Type 0} (P : X → Type 0) (xs : List X) (n : ℕ) → n ≤ length xs → AllWithin P xs n (length xs) → AllByRecursion P (drop n xs)
 all_back P xs n le each = all_from_every P (drop n xs) (λ k d low high. let len = length-drop n xs in rw (get_or-drop n xs k d) (each (n + k) d (omega arith) (omega arith)))
 
 module _ {X : Type 0} (owner : X → ℕ) where

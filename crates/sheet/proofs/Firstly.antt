@@ -15,14 +15,14 @@ use Rattle.sheet.specs.Foremost.{FirstFault, overlong, of_fields}
 
 module _ (bytes : List ℕ) where
   -- a refusal is a first fault
-  first_from_err : (fault : Fault) → opened bytes ≡ Err fault → FirstFault bytes fault
+  pub first_from_err : (fault : Fault) → opened bytes ≡ Err fault → FirstFault bytes fault
   first_from_err fault e = ⊎_elim long (λ short. of_fields (ltb-false 60000 (length bytes) (cond_none _ _ _ short.0).0) (records.first_from_err layer.Sheet (length bytes) (fields_at bytes 0) fault short.1)) (unless_err (too_long bytes) _ fault e)
     where
       long : too_long bytes ≡ Some fault → FirstFault bytes fault
       long some = let told = cond_some (ltb 60000 (length bytes)) _ fault some in subst (FirstFault bytes) told.1 (overlong (ltb-true 60000 (length bytes) told.0))
 
   -- a first fault is the refusal
-  err_from_first : (fault : Fault) → FirstFault bytes fault → opened bytes ≡ Err fault
+  pub err_from_first : (fault : Fault) → FirstFault bytes fault → opened bytes ≡ Err fault
   err_from_first _ (overlong long) = ap (λ o. unless o (opening.opened layer.Sheet (length bytes) (fields_at bytes 0))) (cond-true _ _ _ (lt-ltb 60000 (length bytes) long))
   err_from_first fault (of_fields short first) =
       ap (λ o. unless o (opening.opened layer.Sheet (length bytes) (fields_at bytes 0))) (cond-false _ _ _ (le-ltb 60000 (length bytes) short))
