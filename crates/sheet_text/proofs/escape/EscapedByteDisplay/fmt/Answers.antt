@@ -1,6 +1,0 @@
-use Rattle.std.proofs.Common.{rules}
-use Rattle.std.proofs.lemmas.Fmt.{hex_byte}
-use Rattle.sheet_text.proofs.escape.EscapedByteDisplay.fmt.Goals as goal
-
-pub returns-in_default-clause-writes : goal.returns-in_default-clause-writes
-returns-in_default-clause-writes g c = search (rules, hex_byte)
