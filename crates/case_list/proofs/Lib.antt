@@ -1,4 +1,5 @@
 pub mod Elements
+pub mod HexReading
 pub mod ItemReading
 pub mod Lines
 pub mod NumberReading

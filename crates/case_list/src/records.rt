@@ -3,7 +3,6 @@ ghost use Rattle.std.specs.Prelude.{IfOk};
 ghost use Rattle.case_list.specs.Reading.{AreRead, SpellsSpan, SpellsModule, SpellsStar, SpellsImport, SpellsExport};
 
 use crate::items::Item;
-use crate::parts::parts_between;
 use anyhow::anyhow;
 use graph::records::{Export, Star};
 use std::alloc::Global;
@@ -15,7 +14,7 @@ impl Item for Span {
     ghost spells = { SpellsSpan };
 
     fn parse(heap: Global, text: &str) -> anyhow::Result<Vec<Span>> {
-        let [offset, len] = read_numbers::<usize, 2>(heap, text)?;
+        let [offset, len] = read_numbers::<usize, 2>(text)?;
         let name = Span { offset, len };
         Ok(vec![in heap; name]?)
     }
@@ -25,7 +24,7 @@ impl Item for ModuleRow {
     ghost spells = { SpellsModule };
 
     fn parse(heap: Global, text: &str) -> anyhow::Result<Vec<ModuleRow>> {
-        let [kind, offset, len] = read_numbers::<usize, 3>(heap, text)?;
+        let [kind, offset, len] = read_numbers::<usize, 3>(text)?;
         let kind = u8::try_from(kind)?;
         let id = Span { offset, len };
         let module = ModuleRow { kind, id };
@@ -37,7 +36,7 @@ impl Item for Star {
     ghost spells = { SpellsStar };
 
     fn parse(heap: Global, text: &str) -> anyhow::Result<Vec<Star>> {
-        let [owner, target] = read_numbers::<u16, 2>(heap, text)?;
+        let [owner, target] = read_numbers::<u16, 2>(text)?;
         let star = Star { owner, target };
         Ok(vec![in heap; star]?)
     }
@@ -47,7 +46,7 @@ impl Item for ImportRow {
     ghost spells = { SpellsImport };
 
     fn parse(heap: Global, text: &str) -> anyhow::Result<Vec<ImportRow>> {
-        let [owner, symbol, target, name] = read_numbers::<u16, 4>(heap, text)?;
+        let [owner, symbol, target, name] = read_numbers::<u16, 4>(text)?;
         let import = ImportRow {
             owner,
             symbol,
@@ -62,7 +61,7 @@ impl Item for Export {
     ghost spells = { SpellsExport };
 
     fn parse(heap: Global, text: &str) -> anyhow::Result<Vec<Export>> {
-        let [owner, name, symbol] = read_numbers::<u16, 3>(heap, text)?;
+        let [owner, name, symbol] = read_numbers::<u16, 3>(text)?;
         let export = Export {
             owner,
             name,
@@ -73,22 +72,22 @@ impl Item for Export {
 }
 
 // The N numbers of a record.
-fn read_numbers<T: FromStr + Copy, const N: usize>(
-    heap: Global,
-    text: &str,
-) -> anyhow::Result<[T; N]>
+fn read_numbers<T: FromStr + Default + Copy, const N: usize>(text: &str) -> anyhow::Result<[T; N]>
 where
     T::Err: Error,
     ensures { IfOk result (λ numbers. AreRead T.from_str_gives text.now numbers) }
 {
-    let parts = parts_between(heap, text, ':')?;
-    let mut numbers = Vec::new(heap);
-    for part in parts.iter().take(N) {
-        numbers.push(part.parse()?)?;
+    let mut numbers = [T::default(); N];
+    let mut count = 0;
+    for part in text.split(':') {
+        if count >= N {
+            return Err(anyhow!("too many numbers"));
+        }
+        numbers[count] = part.parse()?;
+        count += 1;
     }
-    match <[T; N]>::try_from(numbers.as_slice()) {
-        Err(_) => Err(anyhow!("too few numbers")),
-        Ok(_) if parts.len() > N => Err(anyhow!("too many numbers")),
-        Ok(numbers) => Ok(numbers),
+    if count < N {
+        return Err(anyhow!("too few numbers"));
     }
+    Ok(numbers)
 }
