@@ -1,5 +1,5 @@
 -- How a list writes sheets and tables.
-use Rattle.std.specs.Prelude.{◌≡◌, ℕ, ◌<◌, Bool, List, [], ◌∷◌, ◌++◌, length, Result, Ok, ◌==◌, ◌&&◌, ◌||◌, nat_le}
+use Rattle.std.specs.Prelude.{◌≡◌, ℕ, ◌<◌, Bool, List, [], ◌∷◌, ◌++◌, length, Result, Ok, ◌==◌, ◌&&◌, ◌||◌, ◌⊎◌, nat_le}
 use Rattle.std.specs.List.{before_first, after_first, position_or_len, repeat, slice_split, AllPass, AllZip}
 use Rattle.std.specs.Char.{is_whitespace, is_not_whitespace}
 use Rattle.std.specs.Str.{NoCharPasses, EmptyOrStartsWithPassing}
@@ -62,6 +62,11 @@ SpellsExport text rows = (e : Export) × Numbers text ((16, e.owner) ∷ (16, e.
 pub data IsItem {X : Type 0} (Spells : List ℕ → List X → Type 0) (item : List ℕ) : List X → Type 0 where
   once : {values : List X} → position_or_len is_star item ≡ length item → Spells item values → IsItem Spells item values
   often : {values : List X} {count : ℕ} → position_or_len is_star item < length item → Spells (before_first is_star item) values → IsNumber 32 (after_first is_star item) count → IsItem Spells item (repeat count values)
+
+-- the text of an item, and how often its values are added
+abbrev pub IsDivided : List ℕ → List ℕ → ℕ → Type 0
+IsDivided item text count =
+    ((position_or_len is_star item ≡ length item) × (text ≡ item) × (count ≡ 1)) ⊎ ((position_or_len is_star item < length item) × (text ≡ before_first is_star item) × IsNumber 32 (after_first is_star item) count)
 
 -- a list is the values of its items, with blanks between them
 pub data IsList {X : Type 0} (Spells : List ℕ → List X → Type 0) : List ℕ → List X → Type 0 where

@@ -1,6 +1,6 @@
 // Lists as the lines write them: items with blanks between them, each `TEXT` or `TEXT*COUNT`.
 ghost use Rattle.std.specs.Prelude.{ℕ, List, IfOk, OnOk};
-ghost use Rattle.case_list.specs.Reading.{IsList, AddsItem, AddsValues};
+ghost use Rattle.case_list.specs.Reading.{IsList, IsDivided, AddsItem, AddsValues};
 
 use std::alloc::Global;
 
@@ -28,9 +28,18 @@ pub(crate) fn read_list<T: Item>(heap: Global, text: &str) -> anyhow::Result<Vec
 fn read_item<T: Item>(heap: Global, item: &str, list: &mut Vec<T>) -> anyhow::Result<()>
     ensures { OnOk result (AddsItem T.spells item.now list.old.items list.new.items) }
 {
+    let (text, count) = text_and_count(item)?;
+    add_values(heap, text, count, list)
+}
+
+// The text of an item, and how often its values are added.
+#[inline(always)]
+fn text_and_count(item: &str) -> anyhow::Result<(&str, u32)>
+    ensures { IfOk result (λ parts. IsDivided item.now parts.0.now parts.1) }
+{
     match item.split_once('*') {
-        Some((text, count)) => add_values(heap, text, count.parse()?, list),
-        None => add_values(heap, item, 1, list),
+        Some((text, count)) => Ok((text, count.parse()?)),
+        None => Ok((item, 1)),
     }
 }
 
