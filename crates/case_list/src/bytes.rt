@@ -8,6 +8,8 @@ use std::alloc::Global;
 
 // Bytes, written in hex with small letters.
 impl Item for u8 {
+    type Values = Vec<u8>;
+
     ghost spells = { SpellsBytes };
 
     fn parse(heap: Global, text: &str) -> anyhow::Result<Vec<u8>> {

@@ -3,14 +3,18 @@ ghost use Rattle.std.specs.Prelude.{ℕ, List, IfOk, OnOk};
 ghost use Rattle.case_list.specs.Reading.{IsList, IsDivided, AddsItem, AddsValues};
 
 use std::alloc::Global;
+use std::convert::AsSlice;
 
 // What a list may be of. The text of an item stands for one value, or for several in a row.
 pub(crate) trait Item: Copy {
+    // What holds the values of a text.
+    type Values: AsSlice<Self> + Drop;
+
     // The text stands for these values.
     ghost spells: { List ℕ → List Self → Type 0 };
 
-    fn parse(heap: Global, text: &str) -> anyhow::Result<Vec<Self>>
-        ensures { IfOk result (λ values. spells text.now values.items) };
+    fn parse(heap: Global, text: &str) -> anyhow::Result<Self::Values>
+        ensures { IfOk result (λ values. spells text.now (Self.Values.items values)) };
 }
 
 // The values of all items in a row.

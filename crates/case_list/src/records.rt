@@ -11,41 +11,49 @@ use std::str::FromStr;
 use tables::lists::{ImportRow, ModuleRow, Span};
 
 impl Item for Span {
+    type Values = [Span; 1];
+
     ghost spells = { SpellsSpan };
 
-    fn parse(heap: Global, text: &str) -> anyhow::Result<Vec<Span>> {
+    fn parse(_heap: Global, text: &str) -> anyhow::Result<[Span; 1]> {
         let [offset, len] = read_numbers::<usize, 2>(text)?;
         let name = Span { offset, len };
-        Ok(vec![in heap; name]?)
+        Ok([name])
     }
 }
 
 impl Item for ModuleRow {
+    type Values = [ModuleRow; 1];
+
     ghost spells = { SpellsModule };
 
-    fn parse(heap: Global, text: &str) -> anyhow::Result<Vec<ModuleRow>> {
+    fn parse(_heap: Global, text: &str) -> anyhow::Result<[ModuleRow; 1]> {
         let [kind, offset, len] = read_numbers::<usize, 3>(text)?;
         let kind = u8::try_from(kind)?;
         let id = Span { offset, len };
         let module = ModuleRow { kind, id };
-        Ok(vec![in heap; module]?)
+        Ok([module])
     }
 }
 
 impl Item for Star {
+    type Values = [Star; 1];
+
     ghost spells = { SpellsStar };
 
-    fn parse(heap: Global, text: &str) -> anyhow::Result<Vec<Star>> {
+    fn parse(_heap: Global, text: &str) -> anyhow::Result<[Star; 1]> {
         let [owner, target] = read_numbers::<u16, 2>(text)?;
         let star = Star { owner, target };
-        Ok(vec![in heap; star]?)
+        Ok([star])
     }
 }
 
 impl Item for ImportRow {
+    type Values = [ImportRow; 1];
+
     ghost spells = { SpellsImport };
 
-    fn parse(heap: Global, text: &str) -> anyhow::Result<Vec<ImportRow>> {
+    fn parse(_heap: Global, text: &str) -> anyhow::Result<[ImportRow; 1]> {
         let [owner, symbol, target, name] = read_numbers::<u16, 4>(text)?;
         let import = ImportRow {
             owner,
@@ -53,21 +61,23 @@ impl Item for ImportRow {
             target,
             name,
         };
-        Ok(vec![in heap; import]?)
+        Ok([import])
     }
 }
 
 impl Item for Export {
+    type Values = [Export; 1];
+
     ghost spells = { SpellsExport };
 
-    fn parse(heap: Global, text: &str) -> anyhow::Result<Vec<Export>> {
+    fn parse(_heap: Global, text: &str) -> anyhow::Result<[Export; 1]> {
         let [owner, name, symbol] = read_numbers::<u16, 3>(text)?;
         let export = Export {
             owner,
             name,
             symbol,
         };
-        Ok(vec![in heap; export]?)
+        Ok([export])
     }
 }
 

@@ -3,4 +3,4 @@ use Rattle.std.specs.List.{repeat}
 use Rattle.case_list.proofs.items.add_values.Given as goal
 
 abbrev pub invariant-loop : goal.invariant-loop
-invariant-loop g l = l.list.items ≡ l.initial.list.items ++ repeat l.counter l.values.items
+invariant-loop g l = l.list.items ≡ l.initial.list.items ++ repeat l.counter (g.T.Values.AsSlice.items l.values)
