@@ -1,4 +1,4 @@
-use Rattle.std.proofs.Common.{◌≡◌, ◌<◌, ◌∙◌, subst, arith, Ok, length, lit<}
+use Rattle.std.proofs.Common.{◌<◌, ◌∙◌, subst, arith, Ok, length, lit<}
 use Rattle.std.specs.List.{AllZip}
 use Rattle.std.proofs.lemmas.List.{length-set, take_all, take_more_set}
 use Rattle.std.proofs.lemmas.Slice.Zip.{all_zipped_more}
