@@ -1,5 +1,4 @@
 pub mod Elements
-pub mod HexReading
 pub mod ItemReading
 pub mod Lines
 pub mod NumberReading
