@@ -43,6 +43,7 @@ pub enum Layer {
 }
 
 impl Layer {
+    // The layer's name.
     pub fn name(self) -> &'static str
         ensures { result.now ≡ layer_name self }
     {
@@ -66,7 +67,7 @@ impl Layer {
     }
 }
 
-// The layer's name.
+// A layer is shown by its name.
 impl fmt::Display for Layer {
     ghost output = { λ layer. Some (layer_name layer) };
 

@@ -29,7 +29,7 @@ pub struct IndexSet<'a, T: Eq> {
     places: &'a mut [T],
     len: usize,
     ghost fits: { len ≤ length places.now },
-    ghost distinct: { Distinct T.eq (take len places.now) },
+    pub ghost distinct: { Distinct T.eq (take len places.now) },
 }
 
 // `lender` says that a set holds on to the places it was lent, so what it writes is the lender's afterwards.

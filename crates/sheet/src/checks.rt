@@ -56,7 +56,8 @@ impl<'a> Progress<'a> {
         is_es(self.kinds.as_slice().last().copied())
     }
 
-    // Whether a record of the latest module clashes with `field`.
+    // Whether a record of the latest module clashes with `field`. `map` stands before `take`, so that the whole chain is
+    // compiled into one loop.
     fn clashes(&self, field: Field) -> bool
         ensures { result ≡ clashes (entry_of field.entry) (take self.now.owned (fields_left self.now.own)) }
     {

@@ -29,6 +29,7 @@ impl<'a> Iterator for Fields<'a> {
 
     ghost remaining = { item_count fields_left };
 
+    // Inlined, as what it calls: a loop over fields then makes no field that it does not look at.
     #[inline(always)]
     fn next(&mut self) -> Option<FieldAt<'a>> {
         let place = self.at;
