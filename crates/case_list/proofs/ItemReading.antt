@@ -1,10 +1,10 @@
 -- The items of a list, and values that are added.
-use Rattle.std.proofs.Common.{◌≡◌, ℕ, zero, suc, ◌+◌, ◌<◌, inl, inr, List, [], ◌++◌, length, ap, subst, ◌∙◌, arith}
-use Rattle.std.specs.List.{position_or_len, repeat}
+use Rattle.std.proofs.Common.{◌≡◌, ℕ, zero, suc, ◌+◌, ◌<◌, inl, inr, List, [], ◌++◌, length, refl, ap, subst, ◌∙◌, arith}
+use Rattle.std.specs.List.{before_first, after_first, position_or_len, repeat}
 use Rattle.std.specs.Char.{is_whitespace, is_not_whitespace}
 use Rattle.std.specs.Str.{NoCharPasses, EmptyOrStartsWithPassing}
 use Rattle.std.proofs.lemmas.Grind.{common_steps}
-use Rattle.case_list.specs.Reading.{is_star, IsDivided, IsList, AddsValues, AddsItem}
+use Rattle.case_list.specs.Reading.{is_star, IsNumber, IsDivided, IsList, AddsValues, AddsItem}
 use Rattle.case_list.specs.Reading.IsItem.{once, often}
 use Rattle.case_list.specs.Reading.IsList.{no_items, an_item}
 
@@ -15,20 +15,24 @@ repeat_more (suc n) xs = let e = repeat_more n xs in grind (arith, common_steps)
 
 module _ {X : Type 0} (Spells : List ℕ → List X → Type 0) where
   -- an item with no `*`
-  once_added : (item : List ℕ) (old new : List X) → position_or_len is_star item ≡ length item → AddsValues Spells item 1 old new → AddsItem Spells item old new
+  pub once_added : (item : List ℕ) (old new : List X) → position_or_len is_star item ≡ length item → AddsValues Spells item 1 old new → AddsItem Spells item old new
   once_added item old new e a =
       let last : repeat 1 a.values ≡ a.values = grind (arith, common_steps) in
       record { values = a.values; spelled = once e a.spelled; added = a.added ∙ ap (λ xs. old ++ xs) last }
 
-  -- an item as its text and its count
-  pub divided_added : (item text : List ℕ) (count : ℕ) (old new : List X) → IsDivided item text count → AddsValues Spells text count old new → AddsItem Spells item old new
-  divided_added item text count old new (inl once_only) a = once_added item old new once_only.0 (subst (λ t. AddsValues Spells t 1 old new) once_only.1 (subst (λ n. AddsValues Spells text n old new) once_only.2 a))
-  divided_added item text count old new (inr counted) a =
+  -- an item with a count
+  pub often_added : (item text digits : List ℕ) (count : ℕ) (old new : List X) → position_or_len is_star item < length item → text ≡ before_first is_star item → digits ≡ after_first is_star item → IsNumber 32 digits count → AddsValues Spells text count old new → AddsItem Spells item old new
+  often_added item text digits count old new l e d n a =
       record {
         values = repeat count a.values;
-        spelled = often counted.0 (subst (λ t. Spells t a.values) counted.1 a.spelled) counted.2;
+        spelled = often l (subst (λ t. Spells t a.values) e a.spelled) (subst (λ t. IsNumber 32 t count) d n);
         added = a.added;
       }
+
+  -- an item as its text and its count
+  pub divided_added : (item text : List ℕ) (count : ℕ) (old new : List X) → IsDivided item text count → AddsValues Spells text count old new → AddsItem Spells item old new
+  divided_added item text count old new (inl alone) a = once_added item old new alone.0 (rw (alone.1, alone.2) at a)
+  divided_added item text count old new (inr counted) a = often_added item text (after_first is_star item) count old new counted.0 counted.1 refl counted.2 a
 
   -- the list so far is that of the whole text, with the values of what is left
   abbrev pub Reads : List ℕ → List ℕ → List X → Type 0
