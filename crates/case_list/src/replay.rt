@@ -5,12 +5,26 @@ ghost use Rattle.case_list.specs.Tallies.{Counts};
 use crate::complaint::check_line;
 use crate::subject::Subject;
 use crate::tally::Tally;
+use arrayvec::ArrayString;
 use std::alloc::Global;
+use std::fmt::Write as _;
+use std::io;
 use std::io::{BufRead, Write};
 
-// Replays a list, and writes each line that comes out wrong to `out`, with what is wrong with it, and flushes it there, so
-// that a buffered writer hands it on whole. With no memory for the complaint it fails, before the line is written. Lines
-// that begin with `#` are headings. No clause says what is written.
+// How much is written at once.
+const LONGEST_WRITE: usize = 1024;
+
+// Writes a line and what is wrong with it, at once if they are short enough.
+fn write_wrong(line: &str, complaint: &str, out: &mut impl Write) -> io::Result<()> {
+    let mut text = ArrayString::<LONGEST_WRITE>::new();
+    match writeln!(text, "{line}\n    {complaint}") {
+        Ok(()) => out.write_all(text.as_bytes()),
+        Err(_) => writeln!(out, "{line}\n    {complaint}"),
+    }
+}
+
+// Replays a list, and writes each line that comes out wrong to `out`, with what is wrong with it. With no memory for that
+// it fails, before the line is written. Lines that begin with `#` are headings. No clause says what is written.
 pub fn replay<S: Subject, L: BufRead + Drop>(
     heap: Global,
     list: L,
@@ -28,8 +42,7 @@ pub fn replay<S: Subject, L: BufRead + Drop>(
         tally.count(complaint.is_some());
         if let Some(complaint) = complaint {
             let complaint = complaint.to_string(heap)?;
-            writeln!(out, "{line}\n    {complaint}")?;
-            out.flush()?;
+            write_wrong(line.as_str(), complaint.as_str(), out)?;
         }
     }
     Ok(tally)

@@ -5,15 +5,13 @@
 use case_list::replay::replay;
 use case_list::subject::SheetAlone;
 use std::io;
-use std::io::{BufReader, BufWriter};
+use std::io::BufReader;
 
 // Each program has its own: a public function of `case_list` gets a contract, and no clause can speak of what a program
 // reads and prints.
 fn run(rt: &(impl Input + AllocGlobal + Print)) -> anyhow::Result<()> {
     let list = BufReader::new(rt.alloc(), rt.reader())?;
-    // room for a wrong line and its complaint, so that most are printed at once
-    let mut out = BufWriter::with_capacity(rt.alloc(), 1024, io::writer(rt))?;
-    let tally = replay::<SheetAlone, _>(rt.alloc(), list, &mut out)?;
+    let tally = replay::<SheetAlone, _>(rt.alloc(), list, &mut io::writer(rt))?;
     rt.println(tally)?;
     Ok(())
 }
